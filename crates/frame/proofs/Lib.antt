@@ -1,0 +1,4 @@
+pub mod Escaped
+pub mod Segments
+pub mod Buffers
+pub mod Frames

@@ -27,7 +27,7 @@ unfoldable pub escaped : List ℕ → List ℕ
 escaped [] = []
 escaped (b ∷ bs) = escaped-byte b ++ escaped bs
 
-abbrev pub framed : List ℕ → List ℕ
+unfoldable pub framed : List ℕ → List ℕ
 framed packet = flag ∷ (escaped packet ++ (flag ∷ []))
 
 -- ---- what can be wrong with bytes that stand between two flags

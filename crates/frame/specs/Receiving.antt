@@ -26,13 +26,16 @@ use Rattle.frame.specs.declared.receiver.Receiver.{Receiver}
 abbrev pub blank : Digest
 blank = record { count = 0; more = false; escaping = Outside; faulted = false }
 
--- with one more unescaped byte, if there is one: it is counted as long as it belongs to the longest packet
+-- with one more unescaped byte that belongs to the longest packet, and with one that is too many
+abbrev pub one-more : Digest → Digest
+one-more d = record { count = d .count + 1; more = d .more; escaping = d .escaping; faulted = d .faulted }
+
+abbrev pub too-many : Digest → Digest
+too-many d = record { count = d .count; more = true; escaping = d .escaping; faulted = d .faulted }
+
 abbrev pub counted : Option ℕ → Digest → Digest
 counted None d = d
-counted (Some c) d =
-    cond (ltb (d .count) max-packet)
-    (record { count = d .count + 1; more = d .more; escaping = d .escaping; faulted = d .faulted })
-    (record { count = d .count; more = true; escaping = d .escaping; faulted = d .faulted })
+counted (Some c) d = cond (ltb (d .count) max-packet) (one-more d) (too-many d)
 
 abbrev pub now-escaping : Digest → Escaping → Digest
 now-escaping d e = record { count = d .count; more = d .more; escaping = e; faulted = d .faulted }

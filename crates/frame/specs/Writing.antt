@@ -5,6 +5,7 @@ use mathlib.Core.List.{List}
 use Prim.Native.Nat.{ℕ}
 use lib.Dec.{ltb}
 use lib.ListN.{length}
+use Rattle.std.specs.Results.{isOk}
 use Rattle.std.specs.declared.result.Result.{Result}
 use Rattle.std.specs.declared.result.Result.the-variants.{Ok, Err}
 use Rattle.refusals.specs.declared.Refusal.{Refusal}
@@ -23,17 +24,19 @@ abbrev pub frame-left : List ℕ → List ℕ → List ℕ
 frame-left packet buffer = cond (ltb (length buffer) (length (framed packet))) buffer (laid (framed packet) buffer)
 
 -- bytes are unescaped where no flag is among them, each escape is a good one and the buffer has room
+abbrev pub measured : List ℕ → Result ℕ NotUnescaped
+measured segment =
+    cond (has-flag segment) (Err HasFlag) (cond (bad-escape segment) (Err BadEscape) (Ok (length (unescaped segment))))
+
+abbrev pub with-room : ℕ → Result ℕ NotUnescaped → Result ℕ NotUnescaped
+with-room room (Ok n) = cond (ltb room n) (Err NoRoom) (Ok n)
+with-room room (Err why) = Err why
+
 abbrev pub unescape-answer : List ℕ → ℕ → Result ℕ NotUnescaped
-unescape-answer segment room =
-    cond (has-flag segment) (Err HasFlag) (
-    cond (bad-escape segment) (Err BadEscape) (
-    cond (ltb room (length (unescaped segment))) (Err NoRoom) (Ok (length (unescaped segment)))))
+unescape-answer segment room = with-room room (measured segment)
 
 abbrev pub unescape-left : List ℕ → List ℕ → List ℕ
-unescape-left segment buffer =
-    cond (has-flag segment) buffer (
-    cond (bad-escape segment) buffer (
-    cond (ltb (length buffer) (length (unescaped segment))) buffer (laid (unescaped segment) buffer)))
+unescape-left segment buffer = cond (isOk (unescape-answer segment (length buffer))) (laid (unescaped segment) buffer) buffer
 
 -- ---- laws
 

@@ -76,15 +76,15 @@ pub struct Receiver {
 impl Receiver {
     /// At the start of a segment.
     pub fn new() -> Receiver
-        ensures { λ r. ⌜ r .digest ≡ blank ⌝ }
+        ensures value { λ r. ⌜ r .digest ≡ blank ⌝ }
+        ensures segment { λ r. ⌜ ((memory : List ℕ) → Holds (r .digest) memory no-bytes) ⌝ }
     {
         Receiver {
             digest: Digest::empty(),
         }
     }
 
-    /// Takes a byte. A flag closes the segment and tells its digest; the bytes that it stands for are then at the memory's front.
-    pub fn byte(&mut self, byte: u8, memory: &mut [u8]) -> Result<Option<Digest>, Refusal>
+    fn take(&mut self, byte: u8, memory: &mut [u8]) -> Result<Option<Digest>, Refusal>
         ensures told { λ r. ⌜ r ≡ byte-tells (now (self .entry)) byte (now (memory .entry)) ⌝ }
         ensures after { λ _. ⌜ now (self .exit) ≡ byte-leaves (now (self .entry)) byte (now (memory .entry)) ⌝ }
         ensures placed { λ _. ⌜ now (memory .exit) ≡ byte-places (now (self .entry)) byte (now (memory .entry)) ⌝ }
@@ -102,9 +102,21 @@ impl Receiver {
         Ok(None)
     }
 
+    /// Takes a byte. A flag closes the segment and tells its digest; the bytes that the segment stands for are then at the
+    /// memory's front. Memory shorter than the longest packet is refused, and then the byte never came.
+    pub fn byte(&mut self, byte: u8, memory: &mut [u8]) -> Result<Option<Digest>, Refusal>
+        ensures told { λ r. ⌜ r ≡ byte-tells (now (self .entry)) byte (now (memory .entry)) ⌝ }
+        ensures after { λ _. ⌜ now (self .exit) ≡ byte-leaves (now (self .entry)) byte (now (memory .entry)) ⌝ }
+        ensures placed { λ _. ⌜ now (memory .exit) ≡ byte-places (now (self .entry)) byte (now (memory .entry)) ⌝ }
+        ensures segment { λ r. ⌜ Receives (now (self .entry)) byte (now (memory .entry)) r (now (self .exit)) (now (memory .exit)) ⌝ }
+    {
+        self.take(byte, memory)
+    }
+
     /// Takes word of a line fault.
     pub fn fault(&mut self)
-        ensures { λ _. ⌜ now (self .exit) .digest ≡ fault-digested (now (self .entry) .digest) ⌝ }
+        ensures after { λ _. ⌜ now (self .exit) .digest ≡ fault-digested (now (self .entry) .digest) ⌝ }
+        ensures segment { λ _. ⌜ ((memory : List ℕ) (s : Segment) → Holds (now (self .entry) .digest) memory s → Holds (now (self .exit) .digest) memory (with-fault s)) ⌝ }
     {
         self.digest.faulted = true;
     }
