@@ -3,8 +3,9 @@ use mathlib.Core.Path.{_≡_, refl, sym, ap, subst, _∙_}
 use mathlib.Core.List.{List, [], _∷_, _++_, append-assoc, append-nil}
 use Prim.Native.Nat.{ℕ, _+_, _-_, _<_}
 use native.Mathlib.Omega.{arith}
-use lib.ListN.{length, getD, drop, set, length-append, length-drop}
-use Rattle.std.proofs.shelf.Lists.{drop-more, set-at, length-push}
+use lib.ListN.{length, getD, take, drop, set, length-append, length-drop}
+use borrow.Rule.Slice.PartMut.{putMid}
+use Rattle.std.proofs.shelf.Lists.{drop-more, set-at, length-push, take-at, drop-at, drop-drop}
 use Rattle.frame.specs.Buffer.{laid, Lays}
 
 -- one more byte right behind the front
@@ -22,6 +23,16 @@ pub lays-one : (was : List ℕ) (at b : ℕ) → at < length was → Lays was (s
 lays-one was at b room front buffer e h =
     let long : length was ≡ length front + (length buffer - length front) = ap length e ∙ simp (length-append, length-drop) in
     (λ i. set (e i) (sym h i) b) ∙ laid-more front buffer b (omega arith)
+
+-- several bytes at once, by a copy to a part of the buffer
+pub lays-part : (was : List ℕ) (at k : ℕ) (bytes : List ℕ) → k ≡ length bytes → Lays was (putMid at k was bytes) at bytes
+lays-part was at k bytes n front buffer e h =
+    let before : take at was ≡ front = ap (take at) e ∙ take-at front (drop (length front) buffer) at h in
+    let behind : drop k (drop at was) ≡ drop (length (front ++ bytes)) buffer =
+    ap (λ l. drop k l) (ap (drop at) e ∙ drop-at front (drop (length front) buffer) at h)
+    ∙ drop-drop k (length front) buffer
+    ∙ ap (λ m. drop m buffer) (omega (arith, length-append front bytes)) in
+    (λ i. before i ++ (bytes ++ behind i)) ∙ sym (append-assoc front bytes (drop (length (front ++ bytes)) buffer))
 
 -- one writing right behind another
 pub lays-then : (was between is : List ℕ) (at next : ℕ) (xs ys : List ℕ) → Lays was between at xs → next ≡ at + length xs → Lays between is next ys → Lays was is at (xs ++ ys)

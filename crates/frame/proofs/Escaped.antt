@@ -13,7 +13,7 @@ use Rattle.std.specs.declared.option.Option.the-variants.{Some, None}
 use Rattle.std.proofs.shelf.Lists.{take-more, take-append-drop}
 use Rattle.std.proofs.shelf.Tests.{eqb-true, cases-bool, or-cases, or-parts, true≢false}
 use Rattle.frame.specs.Framing.{flag, escape, escaped-flag, escaped-escape, escaped-byte, escaped, resolves, bad-escape, has-flag}
-use Rattle.frame.specs.Escapes.{after, meant, after-all, meant-by, unescaped}
+use Rattle.frame.specs.Escapes.{after, meant, in-escape, after-all, meant-by, unescaped}
 use Rattle.frame.specs.Writing.{Reads-back, Only-frames-read}
 use Rattle.frame.specs.declared.escaping.Escaping.{Escaping}
 use Rattle.frame.specs.declared.escaping.Escaping.the-variants.{Outside, Pending, Broken}
@@ -52,11 +52,6 @@ meant-front s i =
 
 -- ---- a bad escape is one behind which the reading does not come out again
 
-unfoldable pub not-outside : Escaping → Bool
-not-outside Outside = false
-not-outside Pending = true
-not-outside Broken = true
-
 stays-broken : (bs : List ℕ) → after-all Broken bs ≡ Broken
 unfolding after-all
 stays-broken [] = refl
@@ -69,24 +64,24 @@ no-escape b h =
     (or-cases (eqb b escaped-flag) (eqb b escaped-escape) h)
 
 mutual
-  unfolding after-all bad-escape not-outside
+  unfolding after-all bad-escape
 
-  pub bad-is : (bs : List ℕ) → bad-escape bs ≡ not-outside (after-all Outside bs)
+  pub bad-is : (bs : List ℕ) → bad-escape bs ≡ in-escape (after-all Outside bs)
   bad-is [] = refl
   bad-is (b ∷ bs) = ⊎-elim (λ e. rw e (bad-behind bs)) (λ e. rw e (bad-is bs)) (cases-bool (eqb b escape))
 
-  bad-behind : (bs : List ℕ) → (not (resolves bs) || bad-escape bs) ≡ not-outside (after-all Pending bs)
+  bad-behind : (bs : List ℕ) → (not (resolves bs) || bad-escape bs) ≡ in-escape (after-all Pending bs)
   bad-behind [] = refl
   bad-behind (b ∷ bs) =
       ⊎-elim
       (λ e.
       (λ i. not (e i) || ((no-escape b e i && not (resolves bs)) || bad-escape bs))
       ∙ bad-is bs
-      ∙ sym (λ i. not-outside (after-all (cond (e i) Outside Broken) bs)))
+      ∙ sym (λ i. in-escape (after-all (cond (e i) Outside Broken) bs)))
       (λ e.
       (λ i. not (e i) || bad-escape (b ∷ bs))
-      ∙ sym (ap not-outside (stays-broken bs))
-      ∙ sym (λ i. not-outside (after-all (cond (e i) Outside Broken) bs)))
+      ∙ sym (ap in-escape (stays-broken bs))
+      ∙ sym (λ i. in-escape (after-all (cond (e i) Outside Broken) bs)))
       (cases-bool (eqb b escaped-flag || eqb b escaped-escape))
 
 -- ---- escaping and reading back
@@ -132,10 +127,9 @@ escaped-back [] = refl
 escaped-back (b ∷ p) = one-back b (escaped p) .back ∙ ap (λ (l : List ℕ). b ∷ l) (escaped-back p)
 
 pub reads-back : (p : List ℕ) → Reads-back p
-unfolding not-outside
 reads-back p = record {
   flagless = escaped-flagless p;
-  well-escaped = bad-is (escaped p) ∙ ap not-outside (escaped-outside p);
+  well-escaped = bad-is (escaped p) ∙ ap in-escape (escaped-outside p);
   back = escaped-back p;
 }
 
@@ -189,8 +183,7 @@ mutual
       (cases-bool (eqb b escaped-flag))
 
 -- the reading came out of every escape
-outside-from : (e : Escaping) → not-outside e ≡ false → e ≡ Outside
-unfolding not-outside
+outside-from : (e : Escaping) → in-escape e ≡ false → e ≡ Outside
 outside-from Outside h = refl
 outside-from Pending h = absurd (true≢false h)
 outside-from Broken h = absurd (true≢false h)

@@ -22,6 +22,12 @@ meant Outside b = cond (eqb b escape) None (Some b)
 meant Pending b = cond (eqb b escaped-flag) (Some flag) (cond (eqb b escaped-escape) (Some escape) None)
 meant Broken b = None
 
+-- a segment that ends here ends in a bad escape, or had one before
+abbrev pub in-escape : Escaping → Bool
+in-escape Outside = false
+in-escape Pending = true
+in-escape Broken = true
+
 -- where the reading stands after some bytes
 unfoldable pub after-all : Escaping → List ℕ → Escaping
 after-all e [] = e

@@ -2,6 +2,7 @@
 ghost use mathlib.Core.Path.{_≡_};
 ghost use mathlib.Core.List.{List};
 ghost use Prim.Native.Nat.{ℕ};
+ghost use lib.ListN.{take};
 ghost use Rattle.frame.specs.Segment.{Segment, no-bytes, with-fault};
 ghost use Rattle.frame.specs.Receiving.{blank, digested, fault-digested, stored, byte-tells, byte-leaves, byte-places, Holds, Receives};
 use crate::FLAG;
@@ -13,16 +14,26 @@ use refusals::Refusal;
 #[derive(Clone, Copy)]
 pub struct Digest {
     /// How many bytes it stands for, up to the longest packet.
-    count: usize,
+    pub count: usize,
     /// It stands for more bytes than the longest packet has.
-    more: bool,
+    pub more: bool,
     /// Where its reading stands.
-    escaping: Escaping,
+    pub escaping: Escaping,
     /// A line fault was reported in it.
-    faulted: bool,
+    pub faulted: bool,
 }
 
 impl Digest {
+    /// The bytes that the segment stands for, up to the longest packet, in the memory that they were gathered in.
+    pub fn bytes<'a>(&self, memory: &'a [u8]) -> &'a [u8]
+        ensures { λ r. ⌜ now r ≡ take (now (self .entry) .count) (now (memory .entry)) ⌝ }
+    {
+        if memory.len() <= self.count {
+            return memory;
+        }
+        &memory[0..self.count]
+    }
+
     /// Of a segment with no bytes.
     fn empty() -> Digest
         ensures { λ r. ⌜ r ≡ blank ⌝ }

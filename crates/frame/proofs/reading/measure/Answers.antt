@@ -11,12 +11,12 @@ use Rattle.std.specs.declared.result.Result.the-variants.{Ok, Err}
 use Rattle.std.proofs.shelf.Lists.{at-drop-more, at-drop-all, take-all}
 use Rattle.std.proofs.shelf.Tests.{eq-eqb, ne-eqb}
 use Rattle.frame.specs.Framing.{flag, has-flag, bad-escape}
-use Rattle.frame.specs.Escapes.{after, meant, after-all, meant-by, unescaped}
+use Rattle.frame.specs.Escapes.{after, meant, in-escape, after-all, meant-by, unescaped}
 use Rattle.frame.specs.Writing.{measured}
 use Rattle.frame.specs.declared.escaping.Escaping.{Escaping}
 use Rattle.frame.specs.declared.escaping.Escaping.the-variants.{Outside}
 use Rattle.frame.specs.declared.reading.NotUnescaped.the-variants.{HasFlag, BadEscape}
-use Rattle.frame.proofs.Escaped.{after-more, meant-more, not-outside, bad-is}
+use Rattle.frame.proofs.Escaped.{after-more, meant-more, bad-is}
 use Rattle.frame.proofs.reading.measure.Needs as need
 
 pub loop-byte-holds : need.loop-byte-holds
@@ -59,26 +59,24 @@ module _ (s : List ℕ) (i : ℕ) (n : ℕ) (e : Escaping) (end : length s ≤ i
   unfolding has-flag
   none-left h = sym h ∙ at-drop-all has-flag s i end
 
-  bad : e ≡ after-all Outside (take i s) → bad-escape s ≡ not-outside e
-  bad h = bad-is s ∙ sym (ap not-outside (h ∙ ap (after-all Outside) (take-all i s end)))
+  bad : e ≡ after-all Outside (take i s) → bad-escape s ≡ in-escape e
+  bad h = bad-is s ∙ sym (ap in-escape (h ∙ ap (after-all Outside) (take-all i s end)))
 
   size : n ≡ length (unescaped (take i s)) → n ≡ length (unescaped s)
   size h = h ∙ ap (λ (l : List ℕ). length (unescaped l)) (take-all i s end)
 
-  all-measured : (t : Bool) → not-outside e ≡ t → has-flag (drop i s) ≡ has-flag s → e ≡ after-all Outside (take i s)
+  all-measured : (t : Bool) → in-escape e ≡ t → has-flag (drop i s) ≡ has-flag s → e ≡ after-all Outside (take i s)
       → n ≡ length (unescaped (take i s)) → measured s ≡ cond t (Err BadEscape) (Ok n)
   all-measured t k f h l = λ j. cond (none-left f j) (Err HasFlag) (cond ((bad h ∙ k) j) (Err BadEscape) (Ok (sym (size l) j)))
 
 pub returns-in-Outside : need.returns-in-Outside
-unfolding not-outside
 returns-in-Outside c =
     let inv = c .loop-byte .inv in
     sym (all-measured (c .args .segment .now) (c .loop-byte .byte-index) (c .loop-byte .count) (c .loop-byte .escaping) (c .loop-byte-test .left)
-    false (ap not-outside (c .in-Outside .is)) (inv .0) (inv .1) (inv .2))
+    false (ap in-escape (c .in-Outside .is)) (inv .0) (inv .1) (inv .2))
 
 pub returns-in-Pending : need.returns-in-Pending
-unfolding not-outside
 returns-in-Pending c =
     let inv = c .loop-byte .inv in
     sym (all-measured (c .args .segment .now) (c .loop-byte .byte-index) (c .loop-byte .count) (c .loop-byte .escaping) (c .loop-byte-test .left)
-    true (⊎-elim (ap not-outside) (ap not-outside) (c .in-Pending .is)) (inv .0) (inv .1) (inv .2))
+    true (⊎-elim (ap in-escape) (ap in-escape) (c .in-Pending .is)) (inv .0) (inv .1) (inv .2))

@@ -1,0 +1,10 @@
+pub mod Limits
+pub mod Addresses
+pub mod Numbered
+pub mod Types
+pub mod Packets
+pub mod Causes
+pub mod Reading
+pub mod Writing
+pub mod Judging
+pub mod Valid
