@@ -2,3 +2,4 @@ pub mod Escaped
 pub mod Segments
 pub mod Buffers
 pub mod Frames
+pub mod Cuts

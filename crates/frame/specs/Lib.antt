@@ -5,4 +5,5 @@ pub mod Escapes
 pub mod Buffer
 pub mod Writing
 pub mod Segment
+pub mod Arrivals
 pub mod Receiving

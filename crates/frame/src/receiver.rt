@@ -80,6 +80,7 @@ fn store(memory: &mut [u8], at: usize, byte: Option<u8>)
 }
 
 /// A receiver, which holds an open segment: what came since the last flag, or since the receiver was made.
+#[derive(Clone, Copy)]
 pub struct Receiver {
     digest: Digest,
 }

@@ -2,6 +2,7 @@ pub mod Limits
 pub mod Addresses
 pub mod Numbered
 pub mod Types
+pub mod Names
 pub mod Packets
 pub mod Causes
 pub mod Reading

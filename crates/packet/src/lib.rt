@@ -3,6 +3,7 @@ pub mod address;
 pub mod causes;
 pub mod judging;
 pub mod kinds;
+pub mod names;
 pub mod reader;
 pub mod writer;
 
