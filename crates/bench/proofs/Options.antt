@@ -1,0 +1,28 @@
+-- What can be said where something came of a reading.
+use mathlib.Core.Path.{_≡_, refl}
+use mathlib.Core.Bool.{Bool, true, false, cond}
+use Prim.Native.Nat.{ℕ}
+use native.Mathlib.Omega.{arith}
+use Rattle.std.specs.Options.{mapped}
+use Rattle.std.specs.declared.option.Option.{Option}
+use Rattle.std.specs.declared.option.Option.the-variants.{Some, None}
+
+module _ {X : Type 0} where
+  pub same-some : (x y : X) → Some x ≡ Some y → x ≡ y
+  same-some x y e = cc
+
+  pub not-none : (x : X) → None ≡ Some x → ⊥
+  not-none x e = let z : _≡_ {A = ℕ} 0 1 = cc in omega arith
+
+  -- something came behind a test, so the test held
+  pub passed : (b : Bool) (o : Option X) (x : X) → cond b o None ≡ Some x → (b ≡ true) × (o ≡ Some x)
+  passed true o x e = (refl, e)
+  passed false o x e = absurd (not-none x e)
+
+  pub failed : (b : Bool) (o : Option X) → (b ≡ true → ⊥) → cond b o None ≡ None
+  failed true o held = absurd (held refl)
+  failed false o held = refl
+
+pub mapped-some : {X Y : Type 0} (f : X → Y) (o : Option X) (y : Y) → mapped f o ≡ Some y → (x : X) × (o ≡ Some x) × (f x ≡ y)
+mapped-some f None y e = absurd (not-none y e)
+mapped-some f (Some x) y e = (x, refl, same-some (f x) y e)
