@@ -1,6 +1,6 @@
 -- What is read before a line feed is what is written there, for each kind of line.
 use mathlib.Core.Path.{_≡_, refl, sym, ap, subst, _∙_}
-use mathlib.Core.Bool.{Bool, true, false, cond}
+use mathlib.Core.Bool.{true}
 use mathlib.Core.List.{List, [], _∷_}
 use Prim.Native.Nat.{ℕ, _≤_}
 use native.Mathlib.Omega.{arith}
@@ -15,12 +15,12 @@ use Rattle.std.proofs.shelf.Tests.{eqb-true}
 use Rattle.frame.specs.Faults.{fault-number}
 use Rattle.frame.specs.declared.faults.LineFault.{LineFault}
 use Rattle.frame.specs.declared.faults.LineFault.the-variants.{Parity, Overrun, Ownership}
-use Rattle.bench.specs.Limits.{max-line}
-use Rattle.bench.specs.Numbers.{number-read}
 use Rattle.bench.specs.Characters.{space, bytes-mark, step-mark, fault-mark}
 use Rattle.bench.specs.Hex.{pairs-read}
+use Rattle.bench.specs.Limits.{max-line}
 use Rattle.bench.specs.Lines.{Line-value, bytes, step, fault, line-body, Line-fits, bytes-read, some-bytes, step-read, fault-digit, fault-of, fault-read, body-read}
-use Rattle.bench.proofs.Options.{same-some, not-none, passed, mapped-some}
+use Rattle.bench.specs.Numbers.{number-read}
+use Rattle.bench.proofs.Options.{same-some, not-none, either, passed, mapped-some}
 use Rattle.bench.proofs.Numbers.{number-exact, number-back}
 use Rattle.bench.proofs.Pairs.{pairs-exact, pairs-back, at-least-one}
 
@@ -57,17 +57,13 @@ one-digit Overrun = decimal-digit 1 (omega arith)
 one-digit Ownership = decimal-digit 5 (omega arith)
 
 digit-exact : (d : ℕ) (f : LineFault) → fault-of d ≡ Some f → fault-digit f ≡ d
-digit-exact d f e = by (eqb d (fault-digit Parity)) (eqb d (fault-digit Overrun)) (eqb d (fault-digit Ownership)) refl refl refl e
+digit-exact d f =
+    either (eqb d (fault-digit Parity)) _ _ f (same Parity) (
+    either (eqb d (fault-digit Overrun)) _ _ f (same Overrun) (
+    either (eqb d (fault-digit Ownership)) _ _ f (same Ownership) (λ e. absurd (not-none f e))))
   where
     same : (g : LineFault) → eqb d (fault-digit g) ≡ true → Some g ≡ Some f → fault-digit f ≡ d
     same g is e = ap fault-digit (sym (same-some g f e)) ∙ sym (eqb-true d (fault-digit g) is)
-
-    by : (p o w : Bool) → eqb d (fault-digit Parity) ≡ p → eqb d (fault-digit Overrun) ≡ o → eqb d (fault-digit Ownership) ≡ w
-        → cond p (Some Parity) (cond o (Some Overrun) (cond w (Some Ownership) None)) ≡ Some f → fault-digit f ≡ d
-    by true o w is-p is-o is-w e = same Parity is-p e
-    by false true w is-p is-o is-w e = same Overrun is-o e
-    by false false true is-p is-o is-w e = same Ownership is-w e
-    by false false false is-p is-o is-w e = absurd (not-none f e)
 
 fault-exact : (rest : List ℕ) (v : Line-value) → fault-read rest ≡ Some v → Written-so (fault-mark ∷ rest) v
 fault-exact [] v e = absurd (not-none v e)
@@ -81,18 +77,14 @@ fault-exact (s ∷ d ∷ []) v e =
 fault-exact (s ∷ d ∷ c ∷ more) v e = absurd (not-none v e)
 
 pub body-exact : (body : List ℕ) (v : Line-value) → body-read body ≡ Some v → Written-so body v
-body-exact [] v e = absurd (not-none v e)
-body-exact (c ∷ rest) v e = by (eqb c bytes-mark) (eqb c step-mark) (eqb c fault-mark) refl refl refl e
+body-exact [] v = λ e. absurd (not-none v e)
+body-exact (c ∷ rest) v =
+    either (eqb c bytes-mark) _ _ v (λ is e. marked bytes-mark is (bytes-exact rest v e)) (
+    either (eqb c step-mark) _ _ v (λ is e. marked step-mark is (step-exact rest v e)) (
+    either (eqb c fault-mark) _ _ v (λ is e. marked fault-mark is (fault-exact rest v e)) (λ e. absurd (not-none v e))))
   where
     marked : (mark : ℕ) → eqb c mark ≡ true → Written-so (mark ∷ rest) v → Written-so (c ∷ rest) v
     marked mark is = subst (λ x. Written-so (x ∷ rest) v) (sym (eqb-true c mark is))
-
-    by : (l t f : Bool) → eqb c bytes-mark ≡ l → eqb c step-mark ≡ t → eqb c fault-mark ≡ f
-        → cond l (bytes-read rest) (cond t (step-read rest) (cond f (fault-read rest) None)) ≡ Some v → Written-so (c ∷ rest) v
-    by true t f is-l is-t is-f e = marked bytes-mark is-l (bytes-exact rest v e)
-    by false true f is-l is-t is-f e = marked step-mark is-t (step-exact rest v e)
-    by false false true is-l is-t is-f e = marked fault-mark is-f (fault-exact rest v e)
-    by false false false is-l is-t is-f e = absurd (not-none v e)
 
 -- ---- what is written is read back
 

@@ -20,6 +20,7 @@ use Rattle.std.proofs.shelf.Decimals.{decimal-digit, decimal-some, first-decima
 use Rattle.std.proofs.shelf.Numerals.{Numerals, numerals-by-value, tells-allDigits, parse-plain}
 use Rattle.std.proofs.shelf.Tests.{false≢true, and-parts, and-from, cases-lt, eqb-false, ne-eqb, not-true, not-from-false, ltb-true, lt-ltb, cond-true}
 use Rattle.std.proofs.shelf.Text.{utf8-from-ascii}
+use Rattle.bench.specs.Characters.{digit-zero}
 use Rattle.bench.specs.Numbers.{unpadded, number-read}
 use Rattle.bench.proofs.Options.{passed, failed, same-some}
 
@@ -27,15 +28,15 @@ own : Numerals (λ ds. allDigits ds ≡ true) (value 10)
 own = numerals-by-value _ tells-allDigits
 
 -- what `unpadded` tests
-unpadded-parts : (ds : List ℕ) → unpadded ds ≡ true → (0 < length ds) × (getD ds 0 0 ≡ 48 → length ds ≡ 1)
+unpadded-parts : (ds : List ℕ) → unpadded ds ≡ true → (0 < length ds) × (getD ds 0 0 ≡ digit-zero → length ds ≡ 1)
 unpadded-parts [] e = absurd (false≢true e)
 unpadded-parts (d ∷ []) e = (omega arith, λ _. refl)
-unpadded-parts (d ∷ c ∷ more) e = (omega arith, λ zero-first. absurd (eqb-false d 48 (not-true (eqb d 48) e) zero-first))
+unpadded-parts (d ∷ c ∷ more) e = (omega arith, λ zero-first. absurd (eqb-false d digit-zero (not-true (eqb d digit-zero) e) zero-first))
 
-unpadded-from : (ds : List ℕ) → 0 < length ds → (getD ds 0 0 ≡ 48 → length ds ≡ 1) → unpadded ds ≡ true
+unpadded-from : (ds : List ℕ) → 0 < length ds → (getD ds 0 0 ≡ digit-zero → length ds ≡ 1) → unpadded ds ≡ true
 unpadded-from [] some lone = absurd (omega arith)
 unpadded-from (d ∷ []) some lone = refl
-unpadded-from (d ∷ c ∷ more) some lone = not-from-false (eqb d 48) (ne-eqb d 48 (λ zero-first. omega (arith, lone zero-first)))
+unpadded-from (d ∷ c ∷ more) some lone = not-from-false (eqb d digit-zero) (ne-eqb d digit-zero (λ zero-first. omega (arith, lone zero-first)))
 
 -- what `number-read` tests
 pub record Number (ds : List ℕ) : Type 0 where
@@ -74,7 +75,7 @@ number-back n small =
     })
     ∙ ap (λ m. Some m) same
   where
-    lone : getD (decimal n) 0 0 ≡ 48 → length (decimal n) ≡ 1
+    lone : getD (decimal n) 0 0 ≡ digit-zero → length (decimal n) ≡ 1
     lone zero-first =
         ⊎-elim (λ (h : 0 < n). absurd (omega (arith, first-decimal n h (omega arith)))) (λ (h : n ≤ 0). ap length (decimal-digit n (omega arith))) (cases-lt 0 n)
 

@@ -11,9 +11,9 @@ use Rattle.std.specs.declared.option.Option.the-variants.{Some, None}
 use Rattle.std.proofs.shelf.Lists.{take-rest, nil-from-length}
 use Rattle.std.proofs.shelf.Tests.{cond-true, cond-false, eqb-true, eq-eqb, ne-eqb}
 use Rattle.bench.specs.Characters.{space}
-use Rattle.bench.specs.Hex.{spaced-pairs, pair-value, one-before, pairs-read}
+use Rattle.bench.specs.Hex.{spaced-pairs, pair-value, both, pairs-read}
 use Rattle.bench.specs.Lines.{bytes, some-bytes}
-use Rattle.bench.proofs.Options.{same-some, not-none, passed}
+use Rattle.bench.proofs.Options.{same-some, not-none, passed, both-some}
 use Rattle.bench.proofs.HexPairs.{pair-exact, pair-back}
 
 -- bytes that were read, and those that are to come
@@ -21,16 +21,19 @@ abbrev pub prefixed : List ℕ → Option (List ℕ) → Option (List ℕ)
 prefixed front None = None
 prefixed front (Some bs) = Some (front ++ bs)
 
+abbrev prepended : ℕ → List ℕ → List ℕ
+prepended b bs = b ∷ bs
+
 -- a pair stands in front
-next-pair : (xs : List ℕ) → 3 ≤ length xs → getD xs 0 0 ≡ space → pairs-read xs ≡ one-before (pair-value (getD xs 1 0) (getD xs 2 0)) (pairs-read (take (length xs - 3) (drop 3 xs)))
+next-pair : (xs : List ℕ) → 3 ≤ length xs → getD xs 0 0 ≡ space → pairs-read xs ≡ both prepended (pair-value (getD xs 1 0) (getD xs 2 0)) (pairs-read (take (length xs - 3) (drop 3 xs)))
 unfolding pairs-read
 next-pair [] long spaced = absurd (omega arith)
 next-pair (s ∷ []) long spaced = absurd (omega arith)
 next-pair (s ∷ high ∷ []) long spaced = absurd (omega arith)
 next-pair (s ∷ high ∷ low ∷ more) long spaced =
-    cond-true (eqb s space) _ _ (eq-eqb s space spaced) ∙ ap (λ xs. one-before (pair-value high low) (pairs-read xs)) (sym (take-rest (s ∷ high ∷ low ∷ more) 3))
+    cond-true (eqb s space) _ _ (eq-eqb s space spaced) ∙ ap (λ xs. both prepended (pair-value high low) (pairs-read xs)) (sym (take-rest (s ∷ high ∷ low ∷ more) 3))
 
-move : (front : List ℕ) (b : ℕ) (o : Option (List ℕ)) → prefixed (front ++ b ∷ []) o ≡ prefixed front (one-before (Some b) o)
+move : (front : List ℕ) (b : ℕ) (o : Option (List ℕ)) → prefixed (front ++ b ∷ []) o ≡ prefixed front (both prepended (Some b) o)
 move front b None = refl
 move front b (Some bs) = ap (λ l. Some l) (append-assoc front (b ∷ []) bs)
 
@@ -39,11 +42,11 @@ pub pair-read : (front pushed xs : List ℕ) (b : ℕ) → 3 ≤ length xs → g
     → prefixed pushed (pairs-read (take (length xs - 3) (drop 3 xs))) ≡ prefixed front (pairs-read xs)
 pair-read front pushed xs b long spaced is-pair push =
     let more = pairs-read (take (length xs - 3) (drop 3 xs)) in
-    ap (λ l. prefixed l more) push ∙ move front b more ∙ ap (prefixed front) (ap (λ o. one-before o more) (sym is-pair) ∙ sym (next-pair xs long spaced))
+    ap (λ l. prefixed l more) push ∙ move front b more ∙ ap (prefixed front) (ap (λ o. both prepended o more) (sym is-pair) ∙ sym (next-pair xs long spaced))
 
 -- no pair stands in front, though something does
 pub no-pair : (xs : List ℕ) → 3 ≤ length xs → getD xs 0 0 ≡ space → pair-value (getD xs 1 0) (getD xs 2 0) ≡ None → pairs-read xs ≡ None
-no-pair xs long spaced not-pair = next-pair xs long spaced ∙ ap (λ o. one-before o (pairs-read (take (length xs - 3) (drop 3 xs)))) not-pair
+no-pair xs long spaced not-pair = next-pair xs long spaced ∙ ap (λ o. both prepended o (pairs-read (take (length xs - 3) (drop 3 xs)))) not-pair
 
 pub no-pairs : (xs : List ℕ) → 0 < length xs → (3 ≤ length xs → getD xs 0 0 ≡ space → ⊥) → pairs-read xs ≡ None
 unfolding pairs-read
@@ -63,19 +66,14 @@ at-least-one (b ∷ bs) some = refl
 
 -- ---- what is read is what is written
 
-both-some : (o : Option ℕ) (p : Option (List ℕ)) (bs : List ℕ) → one-before o p ≡ Some bs → (b : ℕ) × (more : List ℕ) × (o ≡ Some b) × (p ≡ Some more) × (b ∷ more ≡ bs)
-both-some None p bs e = absurd (not-none bs e)
-both-some (Some b) None bs e = absurd (not-none bs e)
-both-some (Some b) (Some more) bs e = (b, more, refl, refl, same-some _ _ e)
-
 pub pairs-exact : (xs bs : List ℕ) → pairs-read xs ≡ Some bs → Every (λ b. b < 256) bs × (spaced-pairs bs ≡ xs)
 unfolding pairs-read
 pairs-exact [] bs e = let same = same-some [] bs e in (subst (Every (λ b. b < 256)) same tt, ap spaced-pairs (sym same))
 pairs-exact (s ∷ []) bs e = absurd (not-none bs e)
 pairs-exact (s ∷ high ∷ []) bs e = absurd (not-none bs e)
 pairs-exact (s ∷ high ∷ low ∷ more) bs e =
-    let p = passed (eqb s space) (one-before (pair-value high low) (pairs-read more)) bs e in
-    let q = both-some (pair-value high low) (pairs-read more) bs (p .1) in
+    let p = passed (eqb s space) (both prepended (pair-value high low) (pairs-read more)) bs e in
+    let q = both-some prepended (pair-value high low) (pairs-read more) bs (p .1) in
     let first = pair-exact high low (q .0) (q .2) in
     let later = pairs-exact more (q .1) (q .3) in
     let spaced = sym (eqb-true s space (p .0)) in (
@@ -86,4 +84,4 @@ pairs-exact (s ∷ high ∷ low ∷ more) bs e =
 pub pairs-back : (bs : List ℕ) → Every (λ b. b < 256) bs → pairs-read (spaced-pairs bs) ≡ Some bs
 unfolding pairs-read
 pairs-back [] small = refl
-pairs-back (b ∷ bs) small = λ i. one-before (pair-back b (small .0) i) (pairs-back bs (small .1) i)
+pairs-back (b ∷ bs) small = λ i. both prepended (pair-back b (small .0) i) (pairs-back bs (small .1) i)

@@ -30,22 +30,18 @@ spaced-pairs bs = joined spaced-pair bs
 abbrev pub hex-value : ℕ → Option ℕ
 hex-value c = cond (within 48 57 c) (Some (c - 48)) (cond (within 65 70 c) (Some (c - 55)) None)
 
-abbrev pub two-digits : Option ℕ → Option ℕ → Option ℕ
-two-digits (Some high) (Some low) = Some (16 * high + low)
-two-digits (Some high) None = None
-two-digits None low = None
+-- where two readings write something, this of both
+abbrev pub both : {X Y Z : Type 0} → (X → Y → Z) → Option X → Option Y → Option Z
+both f (Some x) (Some y) = Some (f x y)
+both f (Some x) None = None
+both f None o = None
 
 abbrev pub pair-value : ℕ → ℕ → Option ℕ
-pair-value high low = two-digits (hex-value high) (hex-value low)
-
-abbrev pub one-before : Option ℕ → Option (List ℕ) → Option (List ℕ)
-one-before (Some b) (Some bs) = Some (b ∷ bs)
-one-before (Some b) None = None
-one-before None bs = None
+pair-value high low = both (λ h l. 16 * h + l) (hex-value high) (hex-value low)
 
 -- the bytes of a row
 unfoldable pub pairs-read : List ℕ → Option (List ℕ)
 pairs-read [] = Some []
 pairs-read (s ∷ []) = None
 pairs-read (s ∷ high ∷ []) = None
-pairs-read (s ∷ high ∷ low ∷ more) = cond (eqb s space) (one-before (pair-value high low) (pairs-read more)) None
+pairs-read (s ∷ high ∷ low ∷ more) = cond (eqb s space) (both (λ b bs. b ∷ bs) (pair-value high low) (pairs-read more)) None

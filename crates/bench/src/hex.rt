@@ -64,11 +64,8 @@ fn digit_value(character: u8) -> Option<u8>
 pub(crate) fn byte_value(high: u8, low: u8) -> Option<u8>
     ensures { λ r. ⌜ r ≡ pair-value high low ⌝ }
 {
-    let Some(high) = digit_value(high) else {
-        return None;
-    };
-    let Some(low) = digit_value(low) else {
-        return None;
-    };
-    Some(16 * high + low)
+    match (digit_value(high), digit_value(low)) {
+        (Some(high), Some(low)) => Some(16 * high + low),
+        _ => None,
+    }
 }

@@ -1,3 +1,4 @@
+//! Examples of texts that are lines and of texts that are none.
 use crate::line::Line;
 use crate::line::LineDisplay;
 use crate::line::NotRead;
@@ -71,6 +72,7 @@ fn malformed_lines_are_refused(rt: LibcRuntime) -> Result<(), Fail> {
     Ok(())
 }
 
+// A line of this many bytes.
 fn line_of(heap: Global, count: u8) -> Result<String, AllocError> {
     let mut text = String::from_str(heap, "L")?;
     for _ in 0..count {
