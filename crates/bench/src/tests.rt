@@ -10,7 +10,7 @@ use std::test::*;
 
 #[test]
 fn lines_come_back(rt: LibcRuntime) -> Result<(), Fail> {
-    let lines = [
+    const LINES: &[&str] = &[
         "L C0 05 01\n",
         "L 9A\n",
         "T 0\n",
@@ -20,10 +20,10 @@ fn lines_come_back(rt: LibcRuntime) -> Result<(), Fail> {
         "F 1\n",
         "F 5\n",
     ];
-    for text in lines {
+    for text in LINES {
         let line = Line::read(rt.alloc(), text.as_bytes())?;
         let back = line.to_string(rt.alloc())?;
-        check(back.as_str() == text).note(text)?;
+        check(back.as_str() == *text).note(*text)?;
     }
     Ok(())
 }
@@ -37,7 +37,7 @@ fn is_refused(heap: Global, text: &str) -> bool {
 
 #[test]
 fn malformed_lines_are_refused(rt: LibcRuntime) -> Result<(), Fail> {
-    let malformed = [
+    const MALFORMED: &[&str] = &[
         "",
         "\n",
         "T 1",
@@ -66,7 +66,7 @@ fn malformed_lines_are_refused(rt: LibcRuntime) -> Result<(), Fail> {
         "F\n",
         "X 1\n",
     ];
-    for text in malformed {
+    for text in MALFORMED {
         check(is_refused(rt.alloc(), text)).note(text)?;
     }
     Ok(())
