@@ -23,9 +23,9 @@ pub impl fmt::Display for Hex as HexDisplay {
 
 /// Bytes, each shown as a space and two digits.
 #[derive(Clone, Copy)]
-pub(crate) struct Pairs<'a>(pub(crate) &'a [u8]);
+pub struct Pairs<'a>(pub &'a [u8]);
 
-pub(crate) impl fmt::Display for Pairs<'_> as PairsDisplay {
+pub impl fmt::Display for Pairs<'_> as PairsDisplay {
     ghost shown = { λ x. Some (spaced-pairs (x .0 .now)) };
 
     fn fmt<W: fmt::Write>(&self, f: &mut fmt::Formatter<W>) -> fmt::Result {

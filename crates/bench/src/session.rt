@@ -6,12 +6,12 @@ ghost use Prim.Native.Nat.{ℕ, _+_, _^_, _<_};
 ghost use lib.ListN.{length};
 ghost use Rattle.std.specs.Of.String.{string-bytes};
 ghost use Rattle.std.specs.Vec.{made};
-ghost use Rattle.std.specs.Options.{mapped};
+ghost use Rattle.std.specs.Options.{isSome, mapped};
 ghost use Rattle.std.specs.declared.option.Option.the-variants.{Some};
 ghost use Rattle.bench.specs.Lines.{line-read};
 ghost use Rattle.bench.specs.Values.{value-of};
-ghost use Rattle.bench.specs.Texts.{ends-text as text-ends, texts};
-ghost use Rattle.bench.specs.Obeying.{bad-text, output};
+ghost use Rattle.bench.specs.Texts.{ends-text as text-ends, cut, texts};
+ghost use Rattle.bench.specs.Obeying.{first-bad, bad-text, output};
 ghost use Rattle.bench.specs.Sessions.{Fed, Ends-text, Takes-bytes, Feeds, Finishes};
 use crate::MAX_LINE;
 use crate::line::Line;
@@ -121,6 +121,14 @@ impl<H: Obey + Drop> Session<H> {
         ensures { λ r. ⌜ made r (λ p. Feeds obeyed writes self (now (chunk .entry)) (p .0) (p .1)) ⌝ }
     {
         self.take(heap, chunk)
+    }
+
+    /// Whether a text was no line, so that nothing counts any more.
+    pub fn is_stopped(&self) -> bool
+        ensures value { λ r. ⌜ r ≡ now (self .entry) .stopped ⌝ }
+        ensures input { λ r. ⌜ ((input : List ℕ) → Fed obeyed (now (self .entry)) input → r ≡ isSome (first-bad 1 (cut [] input))) ⌝ }
+    {
+        self.stopped
     }
 
     /// Comes to the end of the input, and tells what this writes: bytes that no line feed ended are no line.

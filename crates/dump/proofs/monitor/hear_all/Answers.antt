@@ -1,0 +1,36 @@
+use mathlib.Core.Path.{_≡_, refl, sym, ap, subst, _∙_}
+use mathlib.Core.List.{List, [], _∷_, _++_, map}
+use Prim.Native.Nat.{ℕ, _+_}
+use native.Mathlib.Omega.{arith}
+use lib.ListN.{length, getD, take}
+use Rattle.std.specs.Of.String.{string-bytes}
+use Rattle.std.proofs.shelf.Lists.{map-more, take-all}
+use Rattle.std.proofs.shelf.Parts.{pushed}
+use Rattle.frame.specs.Arrivals.{Arrival}
+use Rattle.frame.specs.Arrivals.Arrival.{byte}
+use Rattle.dump.specs.Hearing.{Hears}
+use Rattle.dump.proofs.Heard.{hears-none, hears-on}
+use Rattle.dump.proofs.monitor.hear_all.Needs as need
+
+pub loop-byte-holds : need.loop-byte-holds
+loop-byte-holds c = hears-none (c .args .receiver .now) (c .args .memory .now) (c .new-out .result) (c .new-out .ensures .bytes)
+
+pub loop-byte-again : need.loop-byte-again
+loop-byte-again c =
+    let bytes = c .args .bytes .now in
+    let i = c .loop-byte .byte-index in
+    let added : string-bytes (c .push-str .last .self) ≡ string-bytes (c .loop-byte .out) ++ string-bytes (c .in-Continue-text .text) =
+      pushed (c .as-str .result .now) refl (c .in-Continue-push-str .was tt) (c .push-str .ensures .bytes)
+      ∙ ap (λ (l : List ℕ). string-bytes (c .loop-byte .out) ++ l) (c .as-str .ensures .value) in
+    subst (λ (l : List Arrival). Hears (c .args .receiver .now) (c .args .memory .now) l (c .hear .last .receiver) (c .hear .last .memory) (c .push-str .last .self))
+    (sym (map-more byte bytes i 0 (omega arith)))
+    (hears-on (c .args .receiver .now) (c .loop-byte .receiver) (c .hear .last .receiver) (c .args .memory .now) (c .loop-byte .memory) (c .hear .last .memory)
+    (map byte (take i bytes)) (byte (getD bytes i 0) ∷ []) (c .loop-byte .out) (c .in-Continue-text .text) (c .push-str .last .self)
+    (c .loop-byte .inv) (c .in-Continue-text .ensures tt) (c .loop-byte .kept .memory) added)
+
+pub returns : need.returns
+returns c =
+    let bytes = c .args .bytes .now in
+    let i = c .loop-byte .byte-index in
+    subst (λ (l : List ℕ). Hears (c .args .receiver .now) (c .args .memory .now) (map byte l) (c .loop-byte .receiver) (c .loop-byte .memory) (c .loop-byte .out))
+    (take-all i bytes (omega arith)) (c .loop-byte .inv)

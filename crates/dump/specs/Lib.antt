@@ -1,0 +1,4 @@
+pub mod Texts
+pub mod Dumped
+pub mod Hearing
+pub mod Monitored
