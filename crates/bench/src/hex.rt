@@ -4,7 +4,7 @@ ghost use mathlib.Core.List.{[], _∷_};
 ghost use Prim.Native.Nat.{_<_};
 ghost use lib.Utf8.{encode};
 ghost use Rattle.std.specs.declared.option.Option.the-variants.{Some};
-ghost use Rattle.bench.specs.Hex.{hex-digit, hex-pair, spaced-pairs, hex-value, pair-value};
+ghost use Rattle.bench.specs.Hex.{hex-digit, hex-pair, spaced-pair, spaced-pairs, hex-value, pair-value};
 use std::fmt;
 
 /// A byte, shown as two digits.
@@ -21,6 +21,19 @@ pub impl fmt::Display for Hex as HexDisplay {
     }
 }
 
+/// A byte, shown as a space and two digits.
+#[derive(Clone, Copy)]
+struct Spaced(u8);
+
+impl fmt::Display for Spaced as SpacedDisplay {
+    ghost shown = { λ x. Some (spaced-pair (x .0)) };
+
+    fn fmt<W: fmt::Write>(&self, f: &mut fmt::Formatter<W>) -> fmt::Result {
+        let pair = Hex(self.0);
+        write!(f, " {pair}")
+    }
+}
+
 /// Bytes, each shown as a space and two digits.
 #[derive(Clone, Copy)]
 pub struct Pairs<'a>(pub &'a [u8]);
@@ -30,8 +43,8 @@ pub impl fmt::Display for Pairs<'_> as PairsDisplay {
 
     fn fmt<W: fmt::Write>(&self, f: &mut fmt::Formatter<W>) -> fmt::Result {
         for byte in self.0 {
-            let pair = Hex(*byte);
-            write!(f, " {pair}")?;
+            let pair = Spaced(*byte);
+            write!(f, "{pair}")?;
         }
         Ok(())
     }

@@ -9,6 +9,7 @@ pub mod line;
 pub mod obey;
 mod reading;
 pub mod session;
+pub mod texts;
 
 /// The most bytes that a line has before its line feed: `max-line` of the definitions.
 pub const MAX_LINE: usize = 300;

@@ -5,6 +5,7 @@ ghost use mathlib.Core.List.{List, [], _∷_, _++_};
 ghost use Prim.Native.Nat.{ℕ, _+_, _^_, _<_};
 ghost use lib.ListN.{length};
 ghost use Rattle.std.specs.Of.String.{string-bytes};
+ghost use Rattle.std.specs.Of.Vec.{vec-items};
 ghost use Rattle.std.specs.Vec.{made};
 ghost use Rattle.std.specs.Options.{isSome, mapped};
 ghost use Rattle.std.specs.declared.option.Option.the-variants.{Some};
@@ -17,6 +18,7 @@ use crate::MAX_LINE;
 use crate::line::Line;
 use crate::line::NotRead;
 use crate::obey::Obey;
+use crate::texts::append;
 use std::alloc::AllocError;
 use std::alloc::Global;
 
@@ -58,9 +60,11 @@ fn bad(heap: Global, number: u64) -> Result<String, AllocError>
 }
 
 impl<H: Obey + Drop> Session<H> {
-    /// Before the first byte.
-    pub fn new(heap: Global, handler: H) -> Session<H>
-        ensures { λ r. ⌜ (obeyed handler [] → Fed obeyed r []) ⌝ }
+    fn start(heap: Global, handler: H) -> Session<H>
+        ensures handler { λ r. ⌜ r .handler ≡ handler ⌝ }
+        ensures text { λ r. ⌜ vec-items (r .text) ≡ [] ⌝ }
+        ensures count { λ r. ⌜ r .count ≡ 0 ⌝ }
+        ensures going { λ r. ⌜ r .stopped ≡ false ⌝ }
     {
         Session {
             handler,
@@ -68,6 +72,13 @@ impl<H: Obey + Drop> Session<H> {
             count: 0,
             stopped: false,
         }
+    }
+
+    /// Before the first byte.
+    pub fn new(heap: Global, handler: H) -> Session<H>
+        ensures { λ r. ⌜ (obeyed handler [] → Fed obeyed r []) ⌝ }
+    {
+        Session::start(heap, handler)
     }
 
     /// Ends the text: obeys it as a line, or stops.
@@ -111,7 +122,7 @@ impl<H: Obey + Drop> Session<H> {
         let mut out = String::new(heap);
         for byte in bytes {
             let text = session.byte(heap, *byte)?;
-            out.push_str(text.as_str())?;
+            out = append(out, text.as_str())?;
         }
         Ok((session, out))
     }
@@ -128,7 +139,8 @@ impl<H: Obey + Drop> Session<H> {
         ensures value { λ r. ⌜ r ≡ now (self .entry) .stopped ⌝ }
         ensures input { λ r. ⌜ ((input : List ℕ) → Fed obeyed (now (self .entry)) input → r ≡ isSome (first-bad 1 (cut [] input))) ⌝ }
     {
-        self.stopped
+        let Session { stopped, .. } = self;
+        *stopped
     }
 
     /// Comes to the end of the input, and tells what this writes: bytes that no line feed ended are no line.
@@ -150,8 +162,7 @@ impl<H: Obey + Drop> Session<H> {
 pub fn run<H: Obey + Drop>(heap: Global, handler: H, input: &[u8]) -> Result<String, AllocError>
     ensures { λ r. ⌜ made r (λ out. obeyed handler [] → string-bytes out ≡ output writes (texts (now (input .entry)))) ⌝ }
 {
-    let (session, mut out) = Session::new(heap, handler).feed(heap, input)?;
+    let (session, out) = Session::new(heap, handler).feed(heap, input)?;
     let last = session.finish(heap)?;
-    out.push_str(last.as_str())?;
-    Ok(out)
+    append(out, last.as_str())
 }

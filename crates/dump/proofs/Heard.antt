@@ -60,10 +60,11 @@ module _ (r r′ : Receiver) (b : ℕ) (was is : List ℕ) (told : Result (Optio
         (λ e.
         let h = receives .at-flag s room e holds in
         let same : h .0 ≡ d = cc (closes, h .1) in
-        let c = at-flag s b e in
-        (subst (Holds (r′ .digest) is) (sym (c .0)) (h .3),
-         written ∙ ap verdict-text (judged s (subst (λ (x : Digest). Holds x is s) same (h .2))) ∙ sym (append-nil (segment-text s))
-         ∙ sym (ap (joined segment-text) (c .1))))
+        let c = at-flag s b e in (
+          subst (Holds (r′ .digest) is) (sym (c .0)) (h .3),
+          written ∙ ap verdict-text (judged s (subst (λ (x : Digest). Holds x is s) same (h .2))) ∙ sym (append-nil (segment-text s))
+              ∙ sym (ap (joined segment-text) (c .1)),
+        ))
         (λ n. let h = receives .inside s room n holds in let z : _≡_ {A = ℕ} 0 1 = cc (closes, h .0) in absurd (omega arith))
         (cases-eq b flag)
 
@@ -96,10 +97,11 @@ pub hears-on : (r r′ r″ : Receiver) (m m′ m″ : List ℕ) (xs ys : List A
     → length m′ ≡ length m → string-bytes both ≡ string-bytes one ++ string-bytes two → Hears r m (xs ++ ys) r″ m″ both
 hears-on r r′ r″ m m′ m″ xs ys one two both first second kept is s room holds =
     let a = first s room holds in
-    let b = second (left-open s xs) (omega arith) (a .0) in
-    (subst (Holds (r″ .digest) m″) (sym (left-open-append s xs ys)) (b .0),
-     is ∙ (λ i. a .1 i ++ b .1 i)
-     ∙ sym (ap (joined segment-text) (closed-append s xs ys) ∙ joined-append segment-text (closed s xs) (closed (left-open s xs) ys)))
+    let b = second (left-open s xs) (omega arith) (a .0) in (
+      subst (Holds (r″ .digest) m″) (sym (left-open-append s xs ys)) (b .0),
+      is ∙ (λ i. a .1 i ++ b .1 i)
+          ∙ sym (ap (joined segment-text) (closed-append s xs ys) ∙ joined-append segment-text (closed s xs) (closed (left-open s xs) ys)),
+    )
 
 pub hears-fault : (r r′ : Receiver) (memory : List ℕ) (text : String Global) → ((s : Segment) → Holds (r .digest) memory s → Holds (r′ .digest) memory (with-fault s))
     → string-bytes text ≡ [] → Hears r memory (fault ∷ []) r′ memory text
@@ -119,16 +121,17 @@ pub obeys-heard : (m m′ : BusMonitor) (v : Line-value) (text : String Global) 
 obeys-heard m m′ v text kept hears vs h =
     let came = arrivals vs in
     let more = arrivals-more vs v in
-    let a = hears (open-segment vs) (omega (arith, h .room)) (h .holds) in
-    (record {
-       room = kept ∙ h .room;
-       holds = subst (λ (l : List Arrival). Holds (m′ .receiver .digest) (m′ .memory) (left-open no-bytes l)) (sym more)
-         (subst (Holds (m′ .receiver .digest) (m′ .memory)) (sym (left-open-append no-bytes came (arrivals-of v))) (a .0));
-     },
-     ap (λ (l : List Arrival). joined segment-text (closed no-bytes l)) more
-     ∙ ap (joined segment-text) (closed-append no-bytes came (arrivals-of v))
-     ∙ joined-append segment-text (closed no-bytes came) (closed (open-segment vs) (arrivals-of v))
-     ∙ ap (λ (l : List ℕ). dumped vs ++ l) (sym (a .1)))
+    let a = hears (open-segment vs) (omega (arith, h .room)) (h .holds) in (
+      record {
+        room = kept ∙ h .room;
+        holds = subst (λ (l : List Arrival). Holds (m′ .receiver .digest) (m′ .memory) (left-open no-bytes l)) (sym more)
+            (subst (Holds (m′ .receiver .digest) (m′ .memory)) (sym (left-open-append no-bytes came (arrivals-of v))) (a .0));
+      },
+      ap (λ (l : List Arrival). joined segment-text (closed no-bytes l)) more
+          ∙ ap (joined segment-text) (closed-append no-bytes came (arrivals-of v))
+          ∙ joined-append segment-text (closed no-bytes came) (closed (open-segment vs) (arrivals-of v))
+          ∙ ap (λ (l : List ℕ). dumped vs ++ l) (sym (a .1)),
+    )
 
 pub silent-start : dumped [] ≡ []
 unfolding closed

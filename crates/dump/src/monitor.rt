@@ -4,7 +4,9 @@ ghost use mathlib.Core.List.{List, [], _∷_, map};
 ghost use Prim.Native.Nat.{ℕ};
 ghost use Rattle.std.specs.Vec.{made};
 ghost use Rattle.frame.specs.Arrivals.Arrival.{byte as byte-came};
-ghost use Rattle.frame.specs.Receiving.{Holds};
+ghost use lib.ListN.{length};
+ghost use Rattle.frame.specs.Limits.{max-packet};
+ghost use Rattle.frame.specs.Receiving.{blank};
 ghost use Rattle.bench.specs.Lines.Line-value.{bytes as bytes-came};
 ghost use Rattle.bench.specs.Obeying.{Obeys};
 ghost use Rattle.dump.specs.Dumped.{dumped};
@@ -13,6 +15,7 @@ ghost use Rattle.dump.specs.Monitored.{Heard};
 use crate::texts::verdict_text;
 use bench::line::Line;
 use bench::obey::Obey;
+use bench::texts::append;
 use frame::MAX_PACKET;
 use frame::receiver::Receiver;
 use packet::judging::Station;
@@ -49,7 +52,7 @@ fn hear_all(
     let mut out = String::new(heap);
     for byte in bytes {
         let text = hear(receiver, memory, heap, *byte)?;
-        out.push_str(text.as_str())?;
+        out = append(out, text.as_str())?;
     }
     Ok(out)
 }
@@ -62,14 +65,21 @@ pub struct BusMonitor {
 }
 
 impl BusMonitor {
-    /// Before anything came.
-    pub fn new() -> BusMonitor
-        ensures { λ r. ⌜ Heard r [] ⌝ }
+    fn start() -> BusMonitor
+        ensures digest { λ r. ⌜ r .receiver .digest ≡ blank ⌝ }
+        ensures room { λ r. ⌜ length (r .memory) ≡ max-packet ⌝ }
     {
         BusMonitor {
             receiver: Receiver::new(),
             memory: [0; MAX_PACKET],
         }
+    }
+
+    /// Before anything came.
+    pub fn new() -> BusMonitor
+        ensures { λ r. ⌜ Heard r [] ⌝ }
+    {
+        BusMonitor::start()
     }
 
     /// Hears bytes. Where memory runs out, nothing was heard.

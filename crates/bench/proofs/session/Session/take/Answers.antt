@@ -5,11 +5,9 @@ use native.Mathlib.Omega.{arith}
 use lib.ListN.{length, getD, take}
 use Rattle.std.specs.Of.String.{string-bytes}
 use Rattle.std.proofs.shelf.Lists.{take-more, take-all}
-use Rattle.std.proofs.shelf.Parts.{pushed}
 use Rattle.bench.specs.Sessions.{Takes-bytes}
 use Rattle.bench.proofs.Sessions.{takes-nothing, takes-on}
 use Rattle.bench.proofs.session.Session.take.Needs as need
-use mathlib.Core.Path.{refl}
 
 pub loop-byte-holds : need.loop-byte-holds
 loop-byte-holds g c = takes-nothing (g .H·Obey .obeyed) (g .H·Obey .writes) (c .args .self) (c .new-out .result) (c .new-out .ensures .bytes)
@@ -20,12 +18,10 @@ loop-byte-again g c =
     let w = g .H·Obey .writes in
     let bytes = c .args .bytes .now in
     let i = c .loop-byte .byte-index in
-    let text = string-bytes (c .in-Continue-text .text) in
-    let added : string-bytes (c .push-str .last .self) ≡ string-bytes (c .loop-byte .out) ++ text =
-    pushed (c .as-str .result .now) refl (c .in-Continue-push-str .was tt) (c .push-str .ensures .bytes)
-    ∙ ap (λ (l : List ℕ). string-bytes (c .loop-byte .out) ++ l) (c .as-str .ensures .value) in
-    subst (λ (l : List ℕ). Takes-bytes o w (c .args .self) l (c .byte .last .self) (c .push-str .last .self)) (sym (take-more bytes i 0 (omega arith)))
-    (takes-on o w (c .args .self) (c .loop-byte .session) (c .byte .last .self) (take i bytes) (getD bytes i 0 ∷ []) (c .loop-byte .out) (c .in-Continue-text .text) (c .push-str .last .self)
+    let added : string-bytes (c .in-Continue-out .out) ≡ string-bytes (c .loop-byte .out) ++ string-bytes (c .in-Continue-text .text) =
+    c .in-Continue-out .ensures tt ∙ ap (λ (l : List ℕ). string-bytes (c .loop-byte .out) ++ l) (c .as-str .ensures .value) in
+    subst (λ (l : List ℕ). Takes-bytes o w (c .args .self) l (c .byte .last .self) (c .in-Continue-out .out)) (sym (take-more bytes i 0 (omega arith)))
+    (takes-on o w (c .args .self) (c .loop-byte .session) (c .byte .last .self) (take i bytes) (getD bytes i 0 ∷ []) (c .loop-byte .out) (c .in-Continue-text .text) (c .in-Continue-out .out)
     (c .loop-byte .inv) (c .in-Continue-text .ensures tt) added)
 
 pub returns : need.returns
