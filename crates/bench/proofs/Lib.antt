@@ -6,6 +6,3 @@ mod Pairs
 mod Numbers
 mod Bodies
 mod Exact
-pub mod Cutting
-pub mod Obeyed
-pub mod Sessions

@@ -5,6 +5,3 @@ pub mod Numbers
 pub mod Lines
 pub mod Values
 pub mod Reading
-pub mod Texts
-pub mod Obeying
-pub mod Sessions

@@ -6,10 +6,7 @@
 //! Nothing else is a line, so what a line tells is written in one way only.
 pub mod hex;
 pub mod line;
-pub mod obey;
 mod reading;
-pub mod session;
-pub mod texts;
 
 /// The most bytes that a line has before its line feed: `max-line` of the definitions.
 pub const MAX_LINE: usize = 300;

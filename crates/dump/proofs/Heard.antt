@@ -33,7 +33,7 @@ use Rattle.packet.specs.Judging.{judge}
 use Rattle.packet.specs.declared.causes.DropCause.{DropCause}
 use Rattle.packet.specs.declared.judging.Station.the-variants.{Monitor}
 use Rattle.bench.specs.Lines.{Line-value}
-use Rattle.bench.specs.Obeying.{Obeys}
+use Rattle.session.specs.Obeying.{Obeys}
 use Rattle.dump.specs.Texts.{verdict-text, segment-text}
 use Rattle.dump.specs.Dumped.{arrivals-of, arrivals, dumped, open-segment}
 use Rattle.dump.specs.Hearing.{Hears}

@@ -1,6 +1,6 @@
 //! Running a session over the standard streams: the input is read part by part, and what is written of each part goes out at once.
-use bench::obey::Obey;
-use bench::session::Session;
+use session::feeding::Session;
+use session::obey::Obey;
 use std::error::AnyError;
 use std::io::Read;
 

@@ -2,7 +2,7 @@ use mathlib.Core.Path.{_≡_, refl, sym, ap, subst}
 use Rattle.std.specs.declared.result.Result.the-variants.{Ok}
 use Rattle.bench.specs.Lines.{Line-value}
 use Rattle.bench.specs.Lines.Line-value.{step, fault}
-use Rattle.bench.specs.Obeying.{Obeys}
+use Rattle.session.specs.Obeying.{Obeys}
 use Rattle.bench.specs.Values.{value-of}
 use Rattle.dump.specs.Dumped.{dumped}
 use Rattle.dump.specs.Monitored.{Heard}

@@ -1,7 +1,0 @@
-use Rattle.std.proofs.shelf.Results.{made-weaker}
-use Rattle.bench.proofs.Sessions.{feeds}
-use Rattle.bench.proofs.session.Session.feed.Needs as need
-
-pub returns : need.returns
-returns g c =
-    made-weaker (c .take .result) _ _ (λ p h. feeds (g .H·Obey .obeyed) (g .H·Obey .writes) (c .args .self) (p .0) (c .args .chunk .now) (p .1) h) (c .take .ensures)
