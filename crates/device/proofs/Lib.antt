@@ -1,0 +1,5 @@
+pub mod Choices
+pub mod Numbered
+pub mod Found
+pub mod Bytes
+pub mod Several
