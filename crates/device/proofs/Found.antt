@@ -1,7 +1,7 @@
 -- Variables by address.
 use mathlib.Core.Path.{_≡_, refl, sym, ap, _∙_}
 use mathlib.Core.List.{List, [], _∷_, _++_, map}
-use mathlib.Core.Bool.{Bool, true, false, cond, _&&_}
+use mathlib.Core.Bool.{Bool, false, cond, _&&_}
 use mathlib.Core.Logic.{⊎-elim}
 use Prim.Native.Nat.{ℕ, zero, suc, _+_, _≤_, _<_}
 use native.Mathlib.Omega.{arith}
@@ -9,7 +9,7 @@ use lib.Dec.{eqb, leb, ltb}
 use Rattle.std.specs.Options.{mapped, orOther}
 use Rattle.std.specs.declared.option.Option.{Option}
 use Rattle.std.specs.declared.option.Option.the-variants.{Some, None}
-use Rattle.std.proofs.shelf.Tests.{eq-eqb, ne-eqb, lt-ltb, le-ltb, le-leb, lt-leb, cond-true, cond-false, and-right, cases-lt}
+use Rattle.std.proofs.shelf.Tests.{eq-eqb, ne-eqb, lt-ltb, le-ltb, le-leb, lt-leb, cond-true, cond-false, and-from, and-left, and-right, cases-lt}
 use Rattle.device.specs.Places.{numbered}
 use Rattle.device.specs.Meaning.{Variable}
 use Rattle.device.specs.Lookup.{find, there}
@@ -53,13 +53,17 @@ module _ (f : ℕ → Variable) (at : (i : ℕ) → f i .address ≡ i) where
       cond-false _ _ _ (elsewhere a x (λ e. omega (arith, h (omega arith))))
       ∙ find-outside (a + 1) n x (λ l. omega (arith, h (omega arith)))
 
-  pub find-numbered : (a n x : ℕ) → find x (numbered a n f) ≡ cond (leb a x && ltb x (a + n)) (Some (f x)) None
-  find-numbered a n x =
-      ⊎-elim
-      (λ h.
-      ⊎-elim
-      (λ l. find-outside a n x (λ b. omega arith) ∙ sym (λ i. cond (lt-leb a x l i && ltb x (a + n)) (Some (f x)) None))
-      (λ l. find-inside a n x l h ∙ sym (λ i. cond (le-leb a x l i && lt-ltb x (a + n) h i) (Some (f x)) None))
-      (cases-lt x a))
-      (λ h. find-outside a n x (λ b. h) ∙ sym (cond-false _ _ _ (and-right (leb a x) _ (le-ltb x (a + n) h))))
-      (cases-lt x (a + n))
+  abbrev found : ℕ → ℕ → ℕ → Option Variable
+  found a n x = cond (leb a x && ltb x (a + n)) (Some (f x)) None
+
+  pub find-numbered : (a n x : ℕ) → find x (numbered a n f) ≡ found a n x
+  find-numbered a n x = ⊎-elim below (λ l. ⊎-elim (inside l) above (cases-lt x (a + n))) (cases-lt x a)
+    where
+      below : x < a → find x (numbered a n f) ≡ found a n x
+      below l = find-outside a n x (λ b. omega arith) ∙ sym (cond-false _ _ _ (and-left _ _ (lt-leb a x l)))
+
+      inside : a ≤ x → x < a + n → find x (numbered a n f) ≡ found a n x
+      inside l h = find-inside a n x l h ∙ sym (cond-true _ _ _ (and-from _ _ (le-leb a x l) (lt-ltb x (a + n) h)))
+
+      above : a + n ≤ x → find x (numbered a n f) ≡ found a n x
+      above h = find-outside a n x (λ b. h) ∙ sym (cond-false _ _ _ (and-right (leb a x) _ (le-ltb x (a + n) h)))

@@ -1,34 +1,20 @@
 -- Several settings at once: what is accepted does not change as values are set.
 use mathlib.Core.Path.{_≡_, refl, sym, ap, _∙_}
 use mathlib.Core.List.{List, [], _∷_}
-use mathlib.Core.Bool.{Bool, true, false, cond, _&&_}
+use mathlib.Core.Bool.{Bool, true, _&&_}
 use Prim.Native.Nat.{ℕ, _+_, _<_}
-use lib.Dec.{eqb}
 use lib.ListN.{length, getD, drop}
 use Rattle.std.proofs.shelf.Lists.{at-drop-more}
 use Rattle.std.proofs.shelf.Tests.{and-parts, cond-true}
-use Rattle.device.specs.declared.VariableKind.{VariableKind}
 use Rattle.device.specs.declared.VariableKind.the-variants.{Setting}
 use Rattle.device.specs.declared.assignments.Assignment.{Assignment}
-use Rattle.device.specs.Meaning.{Meaning, Variable}
-use Rattle.device.specs.Lookup.{variable-at, there}
-use Rattle.device.specs.Changes.{accepts, takes, same-kind, changed, holding, change, offered}
+use Rattle.device.specs.Meaning.{Meaning}
+use Rattle.device.specs.Changes.{accepts, change, offered}
 use Rattle.device.specs.Assignments.{accepts-all, change-all, offered-all, assigned}
-use Rattle.device.proofs.Found.{find-map, there-mapped}
+use Rattle.device.proofs.Changed.{accepts-changed}
 
 abbrev none : Assignment
 none = record { address = 0; value = 0 }
-
--- a change keeps what does not look at the present value
-kept : {X : Type 0} (look : Variable → X) → ((v : ℕ) (x : Variable) → look (holding v x) ≡ look x) → (k : VariableKind) (a v : ℕ) (x : Variable) → look (changed k a v x) ≡ look x
-kept look blind k a v x =
-    elim (same-kind k (x .kind) && eqb (x .address) a) as (λ t. look (cond t (holding v x) x) ≡ look x) [ true ↦ blind v x | false ↦ refl ]
-
-pub accepts-changed : (k l : VariableKind) (m : Meaning) (a v b w : ℕ) → accepts k (change l m a v) b w ≡ accepts k m b w
-accepts-changed k l m a v b w =
-    ap (there (takes k w)) (find-map (changed l a v) (kept (λ x. x .address) (λ _ _. refl) l a v) b (m .variables))
-    ∙ there-mapped (takes k w) (changed l a v) (variable-at m b)
-    ∙ ap (λ (test : Variable → Bool). there test (variable-at m b)) (λ i x. kept (takes k w) (λ _ _. refl) l a v x i)
 
 accepts-all-changed : (m : Meaning) (a v : ℕ) (ps : List Assignment) → accepts-all (change Setting m a v) ps ≡ accepts-all m ps
 accepts-all-changed m a v [] = refl

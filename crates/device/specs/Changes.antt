@@ -9,9 +9,9 @@ use Rattle.device.specs.Places.{map-at}
 use Rattle.device.specs.Meaning.{Meaning, Variable, Cell}
 use Rattle.device.specs.Lookup.{variable-at, cell-at, there}
 
--- ---- everywhere
+-- ---- present values
 
--- a variable, and a byte, with another present value
+-- a variable, and a byte, that holds v now
 abbrev pub holding : ℕ → Variable → Variable
 holding v x = record { address = x .address; width = x .width; kind = x .kind; power-up = x .power-up; present = v }
 
@@ -58,14 +58,15 @@ takes k v x = same-kind k (x .kind) && ltb v (2 ^ (x .width))
 abbrev pub accepts : VariableKind → Meaning → ℕ → ℕ → Bool
 accepts k m a v = there (takes k v) (variable-at m a)
 
--- the variable of kind k at address a holding v
+-- the rule that gives v to the variable of kind k at address a, and to no other
 abbrev pub changed : VariableKind → ℕ → ℕ → Variable → Variable
 changed k a v x = cond (same-kind k (x .kind) && eqb (x .address) a) (holding v x) x
 
+-- a device with that variable changed
 abbrev pub change : VariableKind → Meaning → ℕ → ℕ → Meaning
 change k m a v = each-variable (changed k a v) m
 
--- a device after a new value was offered to it
+-- a device after v was offered to the variable of kind k at address a
 abbrev pub offered : VariableKind → Meaning → ℕ → ℕ → Meaning
 offered k m a v = cond (accepts k m a v) (change k m a v) m
 
@@ -75,14 +76,15 @@ offered k m a v = cond (accepts k m a v) (change k m a v) m
 abbrev pub can-store : Meaning → ℕ → ℕ → Bool
 can-store m n i = there (λ (c : Cell). c .writable) (cell-at m n i)
 
--- byte i of memory n holding v
+-- the rule that gives v to byte i of memory n, and to no other: it sees byte j of memory o
 abbrev pub written : ℕ → ℕ → ℕ → ℕ → ℕ → Cell → Cell
 written n i v o j c = cond (eqb o n && eqb j i) (holding-byte v c) c
 
+-- a device with that byte changed
 abbrev pub write : Meaning → ℕ → ℕ → ℕ → Meaning
 write m n i v = each-byte (written n i v) m
 
--- a device after a byte was offered to it
+-- a device after v was offered to byte i of memory n
 abbrev pub stored : Meaning → ℕ → ℕ → ℕ → Meaning
 stored m n i v = cond (can-store m n i) (write m n i v) m
 

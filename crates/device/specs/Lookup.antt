@@ -9,6 +9,7 @@ use Rattle.std.specs.declared.option.Option.{Option}
 use Rattle.std.specs.declared.option.Option.the-variants.{Some, None}
 use Rattle.device.specs.Meaning.{Meaning, Variable, Cell}
 
+-- the first of some variables that is at address a
 abbrev pub find : ℕ → List Variable → Option Variable
 find a [] = None
 find a (x ∷ xs) = cond (eqb (x .address) a) (Some x) (find a xs)

@@ -34,6 +34,30 @@ pub struct VariableState {
     pub present: u32,
 }
 
+impl VariableState {
+    /// Of a setting.
+    pub fn setting(width: u8, present: u32) -> VariableState
+        ensures { λ r. ⌜ r ≡ record { width = width; kind = Setting; present = present } ⌝ }
+    {
+        VariableState {
+            width,
+            kind: VariableKind::Setting,
+            present,
+        }
+    }
+
+    /// Of a reading.
+    pub fn reading(width: u8, present: u32) -> VariableState
+        ensures { λ r. ⌜ r ≡ record { width = width; kind = Reading; present = present } ⌝ }
+    {
+        VariableState {
+            width,
+            kind: VariableKind::Reading,
+            present,
+        }
+    }
+}
+
 /// What a device tells of a byte of a memory.
 #[derive(Clone, Copy)]
 pub struct MemoryByte {
