@@ -1,0 +1,10 @@
+pub mod Masks
+pub mod Acceptances
+pub mod Order
+pub mod Subnets
+pub mod Placing
+pub mod Lawfulness
+pub mod Lookups
+pub mod Ageing
+pub mod Tables
+pub mod Rotations

@@ -1,0 +1,14 @@
+pub mod Limits
+pub mod Masks
+pub mod Acceptable
+pub mod Order
+pub mod Insert
+pub mod Remove
+pub mod Ageing
+pub mod Lookup
+pub mod Start
+pub mod Places
+pub mod Lawful
+pub mod Listed
+pub mod Kept
+pub mod Calls
