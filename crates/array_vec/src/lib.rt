@@ -1,4 +1,6 @@
 //! A list of at most N items that is held in place, with no memory of its own to ask for.
+#![tactic(auto)]
+
 ghost use Rattle.std.specs.Prelude.{◌≡◌, ◌≤◌, length};
 
 pub mod items;

@@ -4,6 +4,8 @@
 //! - `F 0`, `F 1`, `F 5`: the line's hardware reported a parity, an overrun or an ownership fault.
 //!
 //! Nothing else is a line, so what a line tells is written in one way only.
+#![tactic(auto)]
+
 pub mod hex;
 pub mod line;
 mod reading;

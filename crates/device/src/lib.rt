@@ -1,5 +1,7 @@
 //! What a device is to the node that it stands behind: variables, memories and a few constants. Any device that keeps the contract of
 //! the trait `Device` can be put behind a node.
+#![tactic(auto)]
+
 ghost use Rattle.std.specs.Prelude.{◌≡◌, length};
 ghost use Rattle.device.specs.Meaning.{Meaning};
 ghost use Rattle.device.specs.Changes.{accepts, offered, can_store, stored, restarted};

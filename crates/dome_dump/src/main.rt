@@ -1,4 +1,6 @@
 //! Reads a recording of the bus from the standard input, and prints what every segment on it is.
+#![tactic(auto)]
+
 use anyhow::anyhow;
 use dump::monitor::BusMonitor;
 use std::env;

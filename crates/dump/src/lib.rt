@@ -1,4 +1,6 @@
 //! Reading a recording of the bus: what every segment on it is.
+#![tactic(auto)]
+
 ghost use Rattle.std.specs.Prelude.{◌≡◌, IfOk, string_bytes};
 ghost use Rattle.session.specs.Texts.{texts as input_texts};
 ghost use Rattle.session.specs.Obeying.{output};

@@ -1,5 +1,7 @@
 //! SLIP framing (RFC 1055) as SSP 2.1 uses it: a packet stands between two flags, and flags and escapes inside it are escaped.
 //! The bytes between one flag and the next are a segment.
+#![tactic(auto)]
+
 pub mod escaping;
 pub mod faults;
 pub mod reading;

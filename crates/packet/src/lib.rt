@@ -1,4 +1,6 @@
 //! SSP 2.1 packets: addresses, types, reading and writing a packet with its CRC, and judging what came over the line.
+#![tactic(auto)]
+
 pub mod address;
 pub mod causes;
 pub mod judging;

@@ -1,4 +1,6 @@
 //! Dumps each recording of the examples, and holds what is written to what should be.
+#![tactic(auto)]
+
 use dump::dump_recording;
 use std::fs;
 

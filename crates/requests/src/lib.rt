@@ -1,4 +1,6 @@
 //! What a node is asked for: the data of a valid packet taken apart.
+#![tactic(auto)]
+
 pub mod items;
 pub mod naks;
 pub mod reading;

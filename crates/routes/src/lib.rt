@@ -1,4 +1,6 @@
 //! The route table of a node: which port a reply to an address goes out at.
+#![tactic(auto)]
+
 pub mod entry;
 pub mod route;
 pub mod routing;

@@ -1,4 +1,6 @@
 //! Running a session over the standard streams: the input is read part by part, and what is written of each part goes out at once.
+#![tactic(auto)]
+
 use session::feeding::Session;
 use session::obey::Obey;
 use std::io::Read;

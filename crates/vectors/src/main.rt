@@ -1,4 +1,6 @@
 //! Runs published cases: the CRCs of known texts, the byte table as the standard prints it, frames and dropped segments.
+#![tactic(auto)]
+
 use bench::hex::{Hex, Pairs};
 use crc::Method;
 use crc::bitwise::Bitwise;
