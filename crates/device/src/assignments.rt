@@ -16,14 +16,14 @@ pub struct Assignment {
 impl Assignment {
     /// Whether the device would accept it.
     fn is_accepted<D: Device>(self, device: &D) -> bool
-        ensures { result ≡ accepts Setting (means device.now) self.address self.value }
+        ensures { result ≡ accepts Setting (D.means device.now) self.address self.value }
     {
         device.can_set(self.address, self.value)
     }
 
     /// Offers it to the device.
     fn offer<D: Device>(self, device: &mut D)
-        ensures { means device.new ≡ offered Setting (means device.old) self.address self.value }
+        ensures { D.means device.new ≡ offered Setting (D.means device.old) self.address self.value }
     {
         let _ = device.set(self.address, self.value);
     }
@@ -31,7 +31,7 @@ impl Assignment {
 
 /// Whether the device would accept every assignment.
 pub fn can_set_all<D: Device>(device: &D, assignments: &[Assignment]) -> bool
-    ensures { result ≡ accepts_all (means device.now) assignments.now }
+    ensures { result ≡ accepts_all (D.means device.now) assignments.now }
 {
     for a in assignments {
         if !a.is_accepted(device) {
@@ -43,7 +43,7 @@ pub fn can_set_all<D: Device>(device: &D, assignments: &[Assignment]) -> bool
 
 /// Offers each assignment in turn.
 fn offer_each<D: Device>(device: &mut D, assignments: &[Assignment])
-    ensures { means device.new ≡ offered_all (means device.old) assignments.now }
+    ensures { D.means device.new ≡ offered_all (D.means device.old) assignments.now }
 {
     for a in assignments {
         a.offer(device);
@@ -52,8 +52,8 @@ fn offer_each<D: Device>(device: &mut D, assignments: &[Assignment])
 
 /// Makes all the assignments, in order, or none of them where the device would refuse one.
 pub fn set_all<D: Device>(device: &mut D, assignments: &[Assignment]) -> bool
-    ensures answer { result ≡ accepts_all (means device.old) assignments.now }
-    ensures after { means device.new ≡ assigned (means device.old) assignments.now }
+    ensures answer { result ≡ accepts_all (D.means device.old) assignments.now }
+    ensures after { D.means device.new ≡ assigned (D.means device.old) assignments.now }
 {
     if !can_set_all(device, assignments) {
         return false;

@@ -71,8 +71,6 @@ pub struct MemoryByte {
 pub trait Device {
     ghost means: { Self → Meaning };
 
-    ghost laws: { (d : Self) → WellFormed (means d) };
-
     /// How many variables there are.
     fn variable_count(&self) -> usize
         ensures { result ≡ length (means self.now).variables };
@@ -136,4 +134,6 @@ pub trait Device {
     /// Gives every present value its power-up value.
     fn restart(&mut self)
         ensures { means self.new ≡ restarted (means self.old) };
+
+    ghost laws: { (d : Self) → WellFormed (means d) };
 }

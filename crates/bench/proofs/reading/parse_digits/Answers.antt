@@ -3,8 +3,8 @@ use Rattle.std.specs.Str.Parse.{ParsesUnsigned}
 use Rattle.bench.proofs.Numbers.{not_text, parsed}
 use Rattle.bench.proofs.reading.parse_digits.Goals as goal
 
-pub returns-in-default : goal.returns-in-default
-returns-in-default c = sym (not_text c.args.digits.now c.in-default.ensures.cases.0)
+pub returns-in_default : goal.returns-in_default
+returns-in_default c = sym (not_text c.args.digits.now c.in_default.ensures.cases.0)
 
 pub returns : goal.returns
 returns c =

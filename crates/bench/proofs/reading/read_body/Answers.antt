@@ -13,10 +13,10 @@ behind : (mark : ℕ) (body : List ℕ) (r : Result Line NotRead) → 0 < mark �
 behind mark body r some is = subst (λ xs. ReadsAs (body_read xs) r) (opened mark body some is)
 
 pub returns-in-76 : goal.returns-in-76
-returns-in-76 c = behind bytes_mark c.args.body.now c.read-bytes.result (omega arith) c.in-76.is c.read-bytes.ensures
+returns-in-76 c = behind bytes_mark c.args.body.now c.read_bytes.result (omega arith) c.in-76.is c.read_bytes.ensures
 
 pub returns-in-84 : goal.returns-in-84
-returns-in-84 c = behind step_mark c.args.body.now c.read-step.result (omega arith) c.in-84.is c.read-step.ensures
+returns-in-84 c = behind step_mark c.args.body.now c.read_step.result (omega arith) c.in-84.is c.read_step.ensures
 
 pub returns-in-70 : goal.returns-in-70
-returns-in-70 c = behind fault_mark c.args.body.now c.read-fault.result (omega arith) c.in-70.is c.read-fault.ensures
+returns-in-70 c = behind fault_mark c.args.body.now c.read_fault.result (omega arith) c.in-70.is c.read_fault.ensures

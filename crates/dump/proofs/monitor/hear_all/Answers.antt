@@ -13,13 +13,13 @@ pub loop-byte-preserved : goal.loop-byte-preserved
 loop-byte-preserved c =
     let bytes = c.args.bytes.now in
     let i = c.loop-byte.byte-index in
-    let added : string_bytes c.in-ok-out.out ≡ string_bytes c.loop-byte.out ++ string_bytes c.in-ok-text.text =
-    c.in-ok-out.ensures ∙ ap (λ (l : List ℕ). string_bytes c.loop-byte.out ++ l) c.as-str.ensures.value in
-    subst (λ (l : List Arrival). Hears c.args.receiver.now c.args.memory.now l c.hear.new.receiver c.hear.new.memory c.in-ok-out.out)
+    let added : string_bytes c.in_ok-out.out ≡ string_bytes c.loop-byte.out ++ string_bytes c.in_ok-text.text =
+    c.in_ok-out.ensures ∙ ap (λ (l : List ℕ). string_bytes c.loop-byte.out ++ l) c.as_str.ensures.value in
+    subst (λ (l : List Arrival). Hears c.args.receiver.now c.args.memory.now l c.hear.new.receiver c.hear.new.memory c.in_ok-out.out)
     (sym (map_more byte bytes i 0 (omega arith)))
     (hears_on c.args.receiver.now c.loop-byte.receiver c.hear.new.receiver c.args.memory.now c.loop-byte.memory c.hear.new.memory
-    (map byte (take i bytes)) (byte (get_or bytes i 0) ∷ []) c.loop-byte.out c.in-ok-text.text c.in-ok-out.out
-    c.loop-byte.invariant c.in-ok-text.ensures c.loop-byte.auto.memory added)
+    (map byte (take i bytes)) (byte (get_or bytes i 0) ∷ []) c.loop-byte.out c.in_ok-text.text c.in_ok-out.out
+    c.loop-byte.invariant c.in_ok-text.ensures c.loop-byte.auto.memory added)
 
 pub returns : goal.returns
 returns c =

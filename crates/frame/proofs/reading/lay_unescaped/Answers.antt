@@ -22,8 +22,8 @@ pub loop-byte-init : goal.loop-byte-init
 unfolding after_all meant_by
 loop-byte-init c = (refl, refl, lays_none c.args.out.now 0)
 
-pub put-meant-at-requires : goal.put-meant-at-requires
-put-meant-at-requires c =
+pub put_meant-at-requires : goal.put_meant-at-requires
+put_meant-at-requires c =
     let i = c.loop-byte.byte-index in
     let s = c.args.segment.now in
     omega (arith, one_longer s i (omega arith) c.loop-byte.escaping c.meant.result c.loop-byte.invariant.0 c.meant.ensures, meant_front s (i + 1), c.loop-byte.invariant.1)
@@ -34,12 +34,12 @@ loop-byte-preserved c =
     let s = c.args.segment.now in
     let h : i < length s = omega arith in
     let inv = c.loop-byte.invariant in
-    let put = c.put-meant-at.ensures in
+    let put = c.put_meant-at.ensures in
     let more = one_on s i h c.loop-byte.escaping c.meant.result inv.0 c.meant.ensures in (
       c.after-escaping.ensures ∙ ap (λ (x : Escaping). after x (get_or s i 0)) inv.0 ∙ sym (after_more s i h),
       omega (arith, one_longer s i h c.loop-byte.escaping c.meant.result inv.0 c.meant.ensures, put.next, inv.1),
-      lays_same c.args.out.now c.put-meant-at.new.out 0 _ _ more
-          (lays_then c.args.out.now c.loop-byte.out c.put-meant-at.new.out 0 c.loop-byte.at (unescaped (take i s)) (option_to_list c.meant.result) inv.2 (omega (arith, inv.1)) put.lays),
+      lays_same c.args.out.now c.put_meant-at.new.out 0 _ _ more
+          (lays_then c.args.out.now c.loop-byte.out c.put_meant-at.new.out 0 c.loop-byte.at (unescaped (take i s)) (option_to_list c.meant.result) inv.2 (omega (arith, inv.1)) put.lays),
     )
 
 pub returns : goal.returns

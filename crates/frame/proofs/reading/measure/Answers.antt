@@ -38,7 +38,7 @@ loop-byte-preserved c =
     let plain : eqb b flag ≡ false = ne_eqb b flag c.if-byte.false in
     let o : c.meant.result ≡ meant (after_all Outside (take i s)) b = c.meant.ensures ∙ ap (λ (x : Escaping). meant x b) e in
     let longer = length-append (unescaped (take i s)) (option_to_list (meant (after_all Outside (take i s)) b)) in
-    let n = c.meant-len-count.ensures in (
+    let n = c.meant_len-count.ensures in (
       sym (step ∙ (λ k. plain k || has_flag (drop (i + 1) s))) ∙ inv.0,
       c.after-escaping.ensures ∙ ap (λ (x : Escaping). after x b) e ∙ sym (after_more s i h),
       omega (arith, ap length (meant_more s i h), longer, ap (λ (x : _). length (option_to_list x)) o, n.value, inv.2),

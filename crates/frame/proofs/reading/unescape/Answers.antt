@@ -5,5 +5,5 @@ pub returns : goal.returns
 returns c = record {
   told = c.read.ensures.told;
   written = c.read.ensures.written;
-  only-frames = only_frames_read c.args.segment.now;
+  only_frames = only_frames_read c.args.segment.now;
 }

@@ -7,18 +7,18 @@ use Rattle.frame.proofs.writing.lay.Goals as goal
 pub put-inside-requires : goal.put-inside-requires
 put-inside-requires c = omega (arith, framed_length c.args.packet.now)
 
-pub put-all-behind-requires : goal.put-all-behind-requires
-put-all-behind-requires c = omega (arith, framed_length c.args.packet.now, c.put-inside.ensures.next)
+pub put_all-behind-requires : goal.put_all-behind-requires
+put_all-behind-requires c = omega (arith, framed_length c.args.packet.now, c.put-inside.ensures.next)
 
 pub put-requires : goal.put-requires
-put-requires c = omega (arith, framed_length c.args.packet.now, c.put-inside.ensures.next, c.put-all-behind.ensures.next)
+put-requires c = omega (arith, framed_length c.args.packet.now, c.put-inside.ensures.next, c.put_all-behind.ensures.next)
 
 pub returns : goal.returns
 unfolding framed
 returns c =
     let p = c.args.packet.now in
     let first = c.put-inside.ensures in
-    let second = c.put-all-behind.ensures in
+    let second = c.put_all-behind.ensures in
     let third = c.put.ensures in
     record {
       size = omega (arith, framed_length p, first.next, second.next, third.next);

@@ -16,14 +16,14 @@ pub loop-byte-preserved : goal.loop-byte-preserved
 loop-byte-preserved c =
     let i = c.loop-byte.byte-index in
     let p = c.args.packet.now in
-    omega (arith, ap length (escaped_more p i (omega arith)), length-append (escaped (take i p)) (escaped_byte (get_or p i 0)), c.loop-byte.invariant, c.escaped-len-taken.ensures)
+    omega (arith, ap length (escaped_more p i (omega arith)), length-append (escaped (take i p)) (escaped_byte (get_or p i 0)), c.loop-byte.invariant, c.escaped_len-taken.ensures)
 
 pub returns-then-left-taken : goal.returns-then-left-taken
 returns-then-left-taken c =
     let i = c.loop-byte.byte-index in
     let p = c.args.packet.now in
     let long : c.args.room < length (framed p) =
-    omega (arith, ap length (escaped_more p i (omega arith)), length-append (escaped (take i p)) (escaped_byte (get_or p i 0)), escaped_front p (i + 1), framed_length p, c.loop-byte.invariant, c.escaped-len-taken.ensures) in
+    omega (arith, ap length (escaped_more p i (omega arith)), length-append (escaped (take i p)) (escaped_byte (get_or p i 0)), escaped_front p (i + 1), framed_length p, c.loop-byte.invariant, c.escaped_len-taken.ensures) in
     sym (lt-ltb c.args.room (length (framed p)) long)
 
 pub returns : goal.returns

@@ -5,8 +5,8 @@ use Rattle.frame.proofs.Buffers.{lays_none, lays_then, lays_same}
 use Rattle.frame.proofs.Frames.{escaped_more, escaped_front}
 use Rattle.frame.proofs.writing.put_all.Goals as goal
 
-pub put-escaped-next-requires : goal.put-escaped-next-requires
-put-escaped-next-requires c =
+pub put_escaped-next-requires : goal.put_escaped-next-requires
+put_escaped-next-requires c =
     let i = c.loop-byte.byte-index in
     let bytes = c.args.bytes.now in
     omega (arith, ap length (escaped_more bytes i (omega arith)), length-append (escaped (take i bytes)) (escaped_byte (get_or bytes i 0)), escaped_front bytes (i + 1), c.loop-byte.invariant.0)
@@ -22,10 +22,10 @@ loop-byte-preserved c =
     let so_far = escaped (take i bytes) in
     let one = escaped_byte (get_or bytes i 0) in
     let more : so_far ++ one ≡ escaped (take (i + 1) bytes) = sym (escaped_more bytes i (omega arith)) in
-    let step = c.put-escaped-next.ensures in (
+    let step = c.put_escaped-next.ensures in (
       omega (arith, ap length more, length-append so_far one, c.loop-byte.invariant.0, step.next),
-      lays_same c.args.out.now c.put-escaped-next.new.out c.args.at _ _ more
-          (lays_then c.args.out.now c.loop-byte.out c.put-escaped-next.new.out c.args.at c.loop-byte.next so_far one c.loop-byte.invariant.1 c.loop-byte.invariant.0 step.lays),
+      lays_same c.args.out.now c.put_escaped-next.new.out c.args.at _ _ more
+          (lays_then c.args.out.now c.loop-byte.out c.put_escaped-next.new.out c.args.at c.loop-byte.next so_far one c.loop-byte.invariant.1 c.loop-byte.invariant.0 step.lays),
     )
 
 pub returns : goal.returns

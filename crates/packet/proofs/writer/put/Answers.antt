@@ -13,6 +13,6 @@ returns c =
     record {
       next = refl;
       lays =
-          subst (λ (ys : List ℕ). Lays out (put_mid at k out ys) at bytes) (sym c.copy-from-slice.ensures.after)
+          subst (λ (ys : List ℕ). Lays out (put_mid at k out ys) at bytes) (sym c.copy_from_slice.ensures.after)
           (lays_part out at k bytes (omega arith));
     }

@@ -12,8 +12,8 @@ loop-rest-preserved c =
     let rest = c.loop-rest.rest.now in
     let h : 2 ≤ length rest = search rules in
     let more = take_rest rest 2 in
-    one_read max_get 2 address_in c.args.content.now (held c.loop-rest.found) rest (take (length rest - 2) (drop 2 rest)) c.from-le-bytes-address.result
-    (held c.push.new.self) c.loop-rest.invariant c.from-le-bytes-address.ensures more c.if-not-push.ensures.after
+    one_read max_get 2 address_in c.args.content.now (held c.loop-rest.found) rest (take (length rest - 2) (drop 2 rest)) c.from_le_bytes-address.result
+    (held c.push.new.self) c.loop-rest.invariant c.from_le_bytes-address.ensures more c.if-not-push.ensures.after
     (omega (arith, ap length more, length-drop 2 rest)) h (omega arith)
 
 pub returns : goal.returns

@@ -12,8 +12,8 @@ loop-rest-preserved c =
     let rest = c.loop-rest.rest.now in
     let h : 6 ≤ length rest = search rules in
     let more = take_rest rest 6 in
-    one_read max_put 6 assignment_in c.args.content.now (held c.loop-rest.found) rest (take (length rest - 6) (drop 6 rest)) (record { address = c.from-le-bytes-address.result; value = c.from-le-bytes-value.result })
-    (held c.push.new.self) c.loop-rest.invariant (λ i. record { address = c.from-le-bytes-address.ensures i; value = c.from-le-bytes-value.ensures i }) more c.if-not-push.ensures.after
+    one_read max_put 6 assignment_in c.args.content.now (held c.loop-rest.found) rest (take (length rest - 6) (drop 6 rest)) (record { address = c.from_le_bytes-address.result; value = c.from_le_bytes-value.result })
+    (held c.push.new.self) c.loop-rest.invariant (λ i. record { address = c.from_le_bytes-address.ensures i; value = c.from_le_bytes-value.ensures i }) more c.if-not-push.ensures.after
     (omega (arith, ap length more, length-drop 6 rest)) h (omega arith)
 
 pub returns : goal.returns

@@ -12,8 +12,8 @@ loop-rest-preserved c =
     let rest = c.loop-rest.rest.now in
     let h : 8 ≤ length rest = search rules in
     let more = take_rest rest 8 in
-    one_read max_entries 8 entry_in c.args.content.now (held c.loop-rest.found) rest (take (length rest - 8) (drop 8 rest)) c.from-bytes-entry.result
-    (held c.push.new.self) c.loop-rest.invariant c.from-bytes-entry.ensures more c.if-not-push.ensures.after
+    one_read max_entries 8 entry_in c.args.content.now (held c.loop-rest.found) rest (take (length rest - 8) (drop 8 rest)) c.from_bytes-entry.result
+    (held c.push.new.self) c.loop-rest.invariant c.from_bytes-entry.ensures more c.if-not-push.ensures.after
     (omega (arith, ap length more, length-drop 8 rest)) h (omega arith)
 
 pub returns : goal.returns

@@ -4,4 +4,4 @@ use Rattle.dump.proofs.monitor.BusMonitor.bytes.Goals as goal
 
 pub returns : goal.returns
 returns c =
-    obeys_heard c.args.self.now _ (bytes c.args.bytes.now) c.in-ok-out.out c.hear-all.auto.memory c.in-ok-out.ensures
+    obeys_heard c.args.self.now _ (bytes c.args.bytes.now) c.in_ok-out.out c.hear_all.auto.memory c.in_ok-out.ensures

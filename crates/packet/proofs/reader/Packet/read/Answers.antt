@@ -5,7 +5,7 @@ use Rattle.packet.proofs.reader.Packet.read.Goals as goal
 pub returns : goal.returns
 returns c =
     let bs = c.args.bytes.now in
-    let small = bytes_from bs c.type-inv.bytes in
+    let small = bytes_from bs c.type_inv.bytes in
     let e = c.parse.ensures.value in
     record {
       value = e;

@@ -15,8 +15,8 @@ use Rattle.routes.proofs.table.Table.age.Goals as goal
 left_at : (t : Table) (at step : ℕ) (o : Option ℕ) → at < t.len → o ≡ life_left (get_or t.entries at start_route).life step → life_left (at_place (listed t) at).life step ≡ o
 left_at t at step o h e = ap (λ (x : Route). life_left x.life step) (listed_at t at h) ∙ sym e
 
-pub set-life-requires : goal.set-life-requires
-set-life-requires c =
+pub set_life-requires : goal.set_life-requires
+set_life-requires c =
     let t = c.loop-at.self in
     let at = c.loop-at.at in
     let left = left_at t at c.args.step _ c.loop-at-test.true c.in-Some.ensures in
@@ -25,15 +25,15 @@ set-life-requires c =
       shorter = not_longer (at_place (listed t) at).life c.args.step c.in-Some.life left;
     }
 
-pub take-out-requires : goal.take-out-requires
-take-out-requires c = omega (arith, listed_length c.loop-at.self)
+pub take_out-requires : goal.take_out-requires
+take_out-requires c = omega (arith, listed_length c.loop-at.self)
 
 pub loop-at-preserved-in-Some : goal.loop-at-preserved-in-Some
 loop-at-preserved-in-Some c =
     let t = c.loop-at.self in
     let at = c.loop-at.at in
     let left = left_at t at c.args.step _ c.loop-at-test.true c.in-Some.ensures in
-    ap (aged_from (at + 1) c.args.step) c.set-life.ensures
+    ap (aged_from (at + 1) c.args.step) c.set_life.ensures
     ∙ ages_on c.args.step at (listed t) (omega (arith, listed_length t)) c.in-Some.life left
     ∙ c.loop-at.invariant
 
@@ -41,14 +41,14 @@ pub loop-at-smaller-in-Some : goal.loop-at-smaller-in-Some
 loop-at-smaller-in-Some c =
     let t = c.loop-at.self in
     let at = c.loop-at.at in
-    let same = ap length c.set-life.ensures ∙ length-set (listed t) at (with_life (at_place (listed t) at) c.in-Some.life) in
+    let same = ap length c.set_life.ensures ∙ length-set (listed t) at (with_life (at_place (listed t) at) c.in-Some.life) in
     omega (arith, listed_length t, same)
 
 pub loop-at-preserved : goal.loop-at-preserved
 loop-at-preserved c =
     let t = c.loop-at.self in
     let at = c.loop-at.at in
-    ap (aged_from at c.args.step) c.take-out.ensures
+    ap (aged_from at c.args.step) c.take_out.ensures
     ∙ ages_out c.args.step at (listed t) (omega (arith, listed_length t)) (left_at t at c.args.step _ c.loop-at-test.true c.in-None.ensures)
     ∙ c.loop-at.invariant
 
@@ -57,7 +57,7 @@ loop-at-smaller c =
     let t = c.loop-at.self in
     let at = c.loop-at.at in
     let fewer = length-remove (listed t) at (omega (arith, listed_length t)) in
-    omega (arith, listed_length t, fewer, ap length c.take-out.ensures)
+    omega (arith, listed_length t, fewer, ap length c.take_out.ensures)
 
 pub returns : goal.returns
 returns c =

@@ -7,4 +7,4 @@ use Rattle.routes.proofs.table.Table.entries.Goals as goal
 pub returns : goal.returns
 returns c =
     let self = c.args.self.now in
-    record { value = c.in-use.ensures; rules = subst Lawful (sym c.in-use.ensures) (by_places (listed self) self.rules) }
+    record { value = c.in_use.ensures; rules = subst Lawful (sym c.in_use.ensures) (by_places (listed self) self.rules) }

@@ -9,4 +9,4 @@ pub returns : goal.returns
 returns c =
     let n = c.args.network in
     let m = c.args.mask in
-    found_tells n m (listed c.args.self.now) _ (subst (λ (rs : List Route). Found n m rs c.first-of.result) c.in-use.ensures c.first-of.ensures)
+    found_tells n m (listed c.args.self.now) _ (subst (λ (rs : List Route). Found n m rs c.first_of.result) c.in_use.ensures c.first_of.ensures)

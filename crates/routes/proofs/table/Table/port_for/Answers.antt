@@ -10,10 +10,10 @@ pub returns : goal.returns
 returns c =
     let rs = listed c.args.self.now in
     let dest = c.args.dest in
-    let found = sym c.look-up.ensures in
+    let found = sym c.look_up.ensures in
     let k = kept rs c.args.self.now.rules in
     record {
-      value = c.look-up.ensures;
+      value = c.look_up.ensures;
       best = subst (MostSpecific rs dest) found (most_specific rs dest k.order);
       port = subst (λ (p : ℕ). is_port p ≡ true) found (gives_port rs dest k.accepted);
     }

@@ -7,13 +7,13 @@ use Rattle.routes.proofs.Lawfulness.{lawful_shorter}
 use Rattle.routes.proofs.Tables.{after_shortening}
 use Rattle.routes.proofs.table.Table.set_life.Goals as goal
 
-pub invariant-of-self : goal.invariant-of-self
-invariant-of-self c =
+pub invariant_of-self : goal.invariant_of-self
+invariant_of-self c =
     let self = c.args.self.now in
     let at = c.args.at in
     let life = c.args.life in
     let rules = ap lawful (after_shortening self at life c.requires.within) ∙ lawful_shorter (listed self) at life c.requires.within c.requires.shorter self.rules in
-    (length-set self.entries at (with_life (get_or self.entries at start_route) life) ∙ self.whole, (self.within, (rules, tt)))
+    record { whole = length-set self.entries at (with_life (get_or self.entries at start_route) life) ∙ self.whole; within = self.within; rules = rules }
 
 pub returns : goal.returns
 returns c = after_shortening c.args.self.now c.args.at c.args.life c.requires.within

@@ -8,16 +8,16 @@ pub loop-i-init : goal.loop-i-init
 unfolding has_subnet
 loop-i-init c = refl
 
-pub returns-then-is-of : goal.returns-then-is-of
-returns-then-is-of c = record {
+pub returns-then-is_of : goal.returns-then-is_of
+returns-then-is_of c = record {
   within = c.loop-i-test.true;
   none_before = c.loop-i.invariant;
-  here = sym c.if-is-of.ensures;
+  here = sym c.if-is_of.ensures;
 }
 
 pub loop-i-preserved : goal.loop-i-preserved
 loop-i-preserved c =
-    has_not_more c.args.network c.args.mask c.args.routes.now c.loop-i.i c.loop-i-test.true c.loop-i.invariant (sym c.if-is-of.ensures)
+    has_not_more c.args.network c.args.mask c.args.routes.now c.loop-i.i c.loop-i-test.true c.loop-i.invariant (sym c.if-is_of.ensures)
 
 pub returns : goal.returns
 returns c =

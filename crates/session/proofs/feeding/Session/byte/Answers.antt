@@ -11,10 +11,10 @@ returns-then-self g c =
 pub returns-then-ends : goal.returns-then-ends
 returns-then-ends g c =
     byte_ends g.H.Obey.obeyed g.H.Obey.writes c.args.self.now _ c.args.byte c.if-self.false refl refl refl
-    (pushed (c.args.byte ∷ []) refl c.in-ok-push.was c.push.ensures.items) _ _ (ap (λ (n : ℕ). ends_text n c.args.byte) (sym (c.len.ensures ∙ c.args.self.now.text.ok.0)) ∙ sym c.ends-text-ends.ensures ∙ c.if-ends.true) c.end-text.ensures
+    (pushed (c.args.byte ∷ []) refl c.in_ok-push.was c.push.ensures.items) _ _ (ap (λ (n : ℕ). ends_text n c.args.byte) (sym (c.len.ensures ∙ c.args.self.now.text.ok.0)) ∙ sym c.ends_text-ends.ensures ∙ c.if-ends.true) c.end_text.ensures
 
 pub returns : goal.returns
 returns g c =
     byte_kept g.H.Obey.obeyed g.H.Obey.writes c.args.self.now _ c.args.byte c.if-self.false refl refl refl
-    (pushed (c.args.byte ∷ []) refl c.in-ok-push.was c.push.ensures.items) _ c.new-2.ensures.bytes
-    (ap (λ (n : ℕ). ends_text n c.args.byte) (sym (c.len.ensures ∙ c.args.self.now.text.ok.0)) ∙ sym c.ends-text-ends.ensures ∙ c.if-ends.false)
+    (pushed (c.args.byte ∷ []) refl c.in_ok-push.was c.push.ensures.items) _ c.new-2.ensures.bytes
+    (ap (λ (n : ℕ). ends_text n c.args.byte) (sym (c.len.ensures ∙ c.args.self.now.text.ok.0)) ∙ sym c.ends_text-ends.ensures ∙ c.if-ends.false)

@@ -13,11 +13,11 @@ loop-byte-preserved g c =
     let w = g.H.Obey.writes in
     let bytes = c.args.bytes.now in
     let i = c.loop-byte.byte-index in
-    let added : string_bytes c.in-ok-out.out ≡ string_bytes c.loop-byte.out ++ string_bytes c.in-ok-text.text =
-    c.in-ok-out.ensures ∙ ap (λ (l : List ℕ). string_bytes c.loop-byte.out ++ l) c.as-str.ensures.value in
-    subst (λ (l : List ℕ). TakesBytes o w c.args.self l c.byte.new.self c.in-ok-out.out) (sym (take_more bytes i 0 (omega arith)))
-    (takes_on o w c.args.self c.loop-byte.session c.byte.new.self (take i bytes) (get_or bytes i 0 ∷ []) c.loop-byte.out c.in-ok-text.text c.in-ok-out.out
-    c.loop-byte.invariant c.in-ok-text.ensures added)
+    let added : string_bytes c.in_ok-out.out ≡ string_bytes c.loop-byte.out ++ string_bytes c.in_ok-text.text =
+    c.in_ok-out.ensures ∙ ap (λ (l : List ℕ). string_bytes c.loop-byte.out ++ l) c.as_str.ensures.value in
+    subst (λ (l : List ℕ). TakesBytes o w c.args.self l c.byte.new.self c.in_ok-out.out) (sym (take_more bytes i 0 (omega arith)))
+    (takes_on o w c.args.self c.loop-byte.session c.byte.new.self (take i bytes) (get_or bytes i 0 ∷ []) c.loop-byte.out c.in_ok-text.text c.in_ok-out.out
+    c.loop-byte.invariant c.in_ok-text.ensures added)
 
 pub returns : goal.returns
 returns g c =
