@@ -67,14 +67,14 @@ impl<H: Obey + Drop> Session<H> {
 
     /// Before the first byte.
     pub fn new(heap: Global, handler: H) -> Session<H>
-        ensures { obeyed handler [] → Fed obeyed result [] }
+        ensures { H.obeyed handler [] → Fed H.obeyed result [] }
     {
         Session::start(heap, handler)
     }
 
     /// Ends the text: obeys it as a line, or stops.
     fn end_text(&mut self, heap: Global) -> Result<String, AllocError>
-        ensures { EndsText obeyed writes self.old result self.new }
+        ensures { EndsText H.obeyed H.writes self.old result self.new }
     {
         let number = self.count.saturating_add(1);
         match read_text(heap, self.text.as_slice())? {
@@ -92,7 +92,7 @@ impl<H: Obey + Drop> Session<H> {
 
     /// Takes one byte, and tells what this writes.
     fn byte(&mut self, heap: Global, byte: u8) -> Result<String, AllocError>
-        ensures { IfOk result (TakesBytes obeyed writes self.old (byte ∷ []) self.new) }
+        ensures { IfOk result (TakesBytes H.obeyed H.writes self.old (byte ∷ []) self.new) }
     {
         if self.stopped {
             return Ok(String::new(heap));
@@ -107,7 +107,7 @@ impl<H: Obey + Drop> Session<H> {
 
     /// Takes some bytes, and tells what this writes.
     fn take(self, heap: Global, bytes: &[u8]) -> Result<(Session<H>, String), AllocError>
-        ensures { IfOk result (λ p. TakesBytes obeyed writes self bytes.now p.0 p.1) }
+        ensures { IfOk result (λ p. TakesBytes H.obeyed H.writes self bytes.now p.0 p.1) }
     {
         let mut session = self;
         let mut out = String::new(heap);
@@ -120,7 +120,7 @@ impl<H: Obey + Drop> Session<H> {
 
     /// Feeds a part of the input, and tells what its lines write. A session that runs out of memory is gone.
     pub fn feed(self, heap: Global, chunk: &[u8]) -> Result<(Session<H>, String), AllocError>
-        ensures { IfOk result (λ p. Feeds obeyed writes self chunk.now p.0 p.1) }
+        ensures { IfOk result (λ p. Feeds H.obeyed H.writes self chunk.now p.0 p.1) }
     {
         self.take(heap, chunk)
     }
@@ -128,7 +128,7 @@ impl<H: Obey + Drop> Session<H> {
     /// Whether a text was no line, so that nothing counts any more.
     pub fn is_stopped(&self) -> bool
         ensures value { result ≡ self.now.stopped }
-        ensures input { (input : List ℕ) → Fed obeyed self.now input → result ≡ is_some (first_bad 1 (cut [] input)) }
+        ensures input { (input : List ℕ) → Fed H.obeyed self.now input → result ≡ is_some (first_bad 1 (cut [] input)) }
     {
         let Session { stopped, .. } = self;
         *stopped
@@ -136,7 +136,7 @@ impl<H: Obey + Drop> Session<H> {
 
     /// Comes to the end of the input, and tells what this writes: bytes that no line feed ended are no line.
     pub fn finish(self, heap: Global) -> Result<String, AllocError>
-        ensures { IfOk result (Finishes obeyed writes self) }
+        ensures { IfOk result (Finishes H.obeyed H.writes self) }
     {
         let mut session = self;
         if session.stopped {
@@ -151,7 +151,7 @@ impl<H: Obey + Drop> Session<H> {
 
 /// Obeys a whole input, and tells what this writes.
 pub fn run<H: Obey + Drop>(heap: Global, handler: H, input: &[u8]) -> Result<String, AllocError>
-    ensures { IfOk result (λ out. obeyed handler [] → string_bytes out ≡ output writes (texts input.now)) }
+    ensures { IfOk result (λ out. H.obeyed handler [] → string_bytes out ≡ output H.writes (texts input.now)) }
 {
     let (session, out) = Session::new(heap, handler).feed(heap, input)?;
     let last = session.finish(heap)?;
