@@ -139,6 +139,7 @@ fn delete_request<'a>(ss: u8, content: &[u8]) -> Result<Request<'a>, Nak>
 
 impl<'a> Request<'a> {
     /// What a packet with this type byte and this data asks for, or why it gets a NAK.
+    #[tactic(auto, unfolding(crate::specs::Requests::parsed))]
     pub fn read(kind: Kind, content: &'a [u8]) -> Result<Request<'a>, Nak>
         ensures { asked_in result ≡ parsed (type_named (type_bits kind.0)) (supplement_of kind.0) content.now }
     {
