@@ -1,6 +1,6 @@
 -- The length of what a list holds, and one item put behind it.
-use Rattle.std.proofs.Common.{◌≡◌, ℕ, ◌+◌, ◌<◌, ◌≤◌, Bool, true, cond, ltb, List, [], ◌∷◌, ◌++◌, length, get_or, drop, sym, refl, ap, ◌∙◌, append_assoc, arith}
-use Rattle.std.proofs.lemmas.List.{length-take-le, length_push, drop_more, get_or_read}
+use Rattle.std.proofs.Common.{◌≡◌, ℕ, ◌+◌, ◌<◌, ◌≤◌, Bool, cond, ltb, List, [], ◌∷◌, ◌++◌, length, get_or, drop, sym, ap, ◌∙◌, append_assoc, arith}
+use Rattle.std.proofs.lemmas.List.{length-take-le, length_push, drop_more}
 use Rattle.std.proofs.lemmas.Bool.{lt-ltb}
 use Rattle.array_vec.specs.Held.{held}
 use Rattle.array_vec.specs.declared.ArrayVec.{ArrayVec}

@@ -1,5 +1,5 @@
 -- Several counts, one after another from the front on.
-use Rattle.std.proofs.Common.{◌≡◌, ℕ, ◌+◌, ◌<◌, Bool, ◌&&◌, ltb, List, length, get_or, drop, set}
+use Rattle.std.proofs.Common.{◌≡◌, ℕ, ◌+◌, ◌<◌, ◌&&◌, ltb, List, length, get_or, drop, set}
 use Rattle.std.proofs.lemmas.List.{at_drop_more}
 use Rattle.device.specs.declared.assignments.Assignment.{Assignment}
 use Rattle.counts.specs.Limits.{count_of_counts}

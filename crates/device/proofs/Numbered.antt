@@ -1,6 +1,6 @@
 -- Lists that are made from numbers.
 use Rattle.std.proofs.Common.{◌≡◌, ℕ, zero, suc, ◌+◌, ◌<◌, ◌≤◌, ◌∷◌, map, length, Some, None, refl, ap, arith}
-use Rattle.std.specs.List.{slice_get, AllByRecursion as All}
+use Rattle.std.specs.List.{slice_get, AllByRecursion}
 use Rattle.device.specs.Places.{numbered, map_at}
 
 -- P holds of each of the n numbers from a on
@@ -25,7 +25,7 @@ map_at_numbered r a zero f g h = refl
 map_at_numbered r a (suc n) f g h =
     λ j. h a (omega arith) (omega arith) j ∷ map_at_numbered r (a + 1) n f g (λ i l b. h i (omega arith) (omega arith)) j
 
-pub all_numbered : {X : Type 0} (P : X → Type 0) (a n : ℕ) (f : ℕ → X) → Each a n (λ i. P (f i)) → All P (numbered a n f)
+pub all_numbered : {X : Type 0} (P : X → Type 0) (a n : ℕ) (f : ℕ → X) → Each a n (λ i. P (f i)) → AllByRecursion P (numbered a n f)
 all_numbered P a zero f h = tt
 all_numbered P a (suc n) f h = (h a (omega arith) (omega arith), all_numbered P (a + 1) n f (λ i l b. h i (omega arith) (omega arith)))
 

@@ -1,6 +1,6 @@
 -- Segments, one part of what came after another.
-use Rattle.std.proofs.Common.{◌≡◌, ℕ, cond, eqb, List, [], ◌∷◌, ◌++◌, sym, refl, ap, ◌∙◌, ⊎_elim}
-use Rattle.std.proofs.lemmas.Bool.{cases_Bool, cond-true, cond-false}
+use Rattle.std.proofs.Common.{◌≡◌, eqb, List, [], ◌∷◌, ◌++◌, refl, ap, ⊎_elim}
+use Rattle.std.proofs.lemmas.Bool.{cases_Bool}
 use Rattle.frame.specs.Framing.{flag}
 use Rattle.frame.specs.Segment.{Segment, no_bytes, with_byte, with_fault}
 use Rattle.frame.specs.Arrivals.{Arrival, closed, left_open}

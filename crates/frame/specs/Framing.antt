@@ -1,5 +1,5 @@
 -- Framing: a flag, C0, stands before and behind the packet. Inside, C0 is sent as DB DC and DB as DB DD; every other byte is itself.
-use Rattle.std.specs.Prelude.{ℕ, Bool, true, false, cond, not, ◌&&◌, ◌||◌, List, [], ◌∷◌, ◌++◌, ◌==◌}
+use Rattle.std.specs.Prelude.{ℕ, Bool, false, cond, not, ◌&&◌, ◌||◌, List, [], ◌∷◌, ◌++◌, ◌==◌}
 
 abbrev pub flag : ℕ
 flag = 0xC0

@@ -5,7 +5,7 @@ use Rattle.refusals.specs.declared.Refusal.TheVariants.{ShortBuffer}
 use Rattle.frame.specs.Limits.{max_packet}
 use Rattle.frame.specs.Framing.{flag}
 use Rattle.frame.specs.Escapes.{after, meant, after_all, unescaped}
-use Rattle.frame.specs.Segment.{Segment, no_bytes, with_byte, with_fault}
+use Rattle.frame.specs.Segment.{Segment, no_bytes, with_byte}
 use Rattle.frame.specs.declared.escaping.Escaping.{Escaping}
 use Rattle.frame.specs.declared.escaping.Escaping.TheVariants.{Outside}
 use Rattle.frame.specs.declared.receiver.Digest.{Digest}

@@ -1,5 +1,5 @@
 -- What writing a frame and unescaping a segment answer and leave in a buffer of some length.
-use Rattle.std.specs.Prelude.{◌≡◌, ℕ, Bool, true, false, cond, List, length, is_ok, Ok, Err, Result, nat_lt}
+use Rattle.std.specs.Prelude.{◌≡◌, ℕ, false, cond, List, length, is_ok, Ok, Err, Result, nat_lt}
 use Rattle.refusals.specs.declared.Refusal.{Refusal}
 use Rattle.refusals.specs.declared.Refusal.TheVariants.{ShortBuffer}
 use Rattle.frame.specs.Framing.{framed, escaped, has_flag, bad_escape}

@@ -1,10 +1,10 @@
 -- A packet and its bytes give back one another.
-use Rattle.std.proofs.Common.{◌≡◌, ℕ, zero, suc, ◌+◌, ◌-◌, ◌*◌, ◌/◌, ◌%◌, ◌^◌, ◌<◌, ◌≤◌, Bool, true, false, eqb, List, [], ◌∷◌, ◌++◌, length, get_or, take, drop, sym, refl, ap, ◌∙◌, subst, ⊎_elim, arith, w8, Fits}
+use Rattle.std.proofs.Common.{◌≡◌, ℕ, suc, ◌+◌, ◌-◌, ◌*◌, ◌/◌, ◌%◌, ◌<◌, ◌≤◌, true, eqb, List, [], ◌∷◌, ◌++◌, length, get_or, take, sym, refl, ap, ◌∙◌, ⊎_elim, arith, w8, Fits}
 use Rattle.std.proofs.lemmas.Bool.{eqb-true, eqb-false, eq-eqb, ne_eqb, cases_Bool}
 use Rattle.crc.specs.Crc.{crc}
 use Rattle.crc.proofs.Residue.{own_crc_gives_zero, zero_needs_own_crc}
-use Rattle.packet.specs.Limits.{min_packet, data_offset}
-use Rattle.packet.specs.Packets.{Parts, covered, sent, packed, data_in, parts_of, crc_right, Bytes}
+use Rattle.packet.specs.Limits.{min_packet}
+use Rattle.packet.specs.Packets.{Parts, covered, sent, packed, parts_of, crc_right, Bytes}
 
 -- what a slice of bytes holds
 pub bytes_from : (bs : List ℕ) → ((i : ℕ) → Fits w8 (get_or bs i 0)) → Bytes bs

@@ -1,8 +1,7 @@
 -- What is read as a packet.
-use Rattle.std.proofs.Common.{◌≡◌, ℕ, ◌<◌, ◌≤◌, Bool, true, false, cond, not, eqb, ltb, ◌≢◌, List, [], ◌∷◌, length, get_or, is_ok, Ok, Err, Result, sym, refl, ap, ◌∙◌, subst, arith}
+use Rattle.std.proofs.Common.{◌≡◌, ℕ, ◌≤◌, false, cond, not, ltb, List, [], ◌∷◌, length, Ok, Err, Result, sym, refl, ap, ◌∙◌, arith}
 use Rattle.std.proofs.lemmas.Bool.{eqb-true, ltb-false, le-ltb, not-false}
 use Rattle.crc.specs.Crc.{crc}
-use Rattle.crc.specs.Detection.{Damage}
 use Rattle.crc.proofs.Damaged.{damage_changes_crc}
 use Rattle.frame.specs.Limits.{max_packet}
 use Rattle.packet.specs.Limits.{min_packet}

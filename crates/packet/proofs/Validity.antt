@@ -1,22 +1,21 @@
 -- A segment is judged to be a packet exactly where it is a valid one with that packet.
-use Rattle.std.proofs.Common.{◌≡◌, ℕ, ◌<◌, ◌≤◌, Bool, true, false, cond, not, ◌||◌, eqb, ltb, List, [], ◌∷◌, ◌++◌, length, Some, None, Ok, Err, Option, Result, sym, refl, ap, ◌∙◌, subst, ⊎_elim, arith}
+use Rattle.std.proofs.Common.{◌≡◌, ℕ, ◌<◌, ◌≤◌, false, cond, not, ◌||◌, eqb, List, [], ◌∷◌, ◌++◌, length, Some, None, Ok, Err, Result, sym, refl, ap, ◌∙◌, subst, arith}
 use Rattle.std.specs.Option.{option_to_list}
 use Rattle.std.proofs.lemmas.Bool.{ltb-false, not-false, or_parts, or_from, cond_both}
 use Rattle.frame.specs.Limits.{max_packet}
-use Rattle.frame.specs.Framing.{flag, escape, escaped_flag, escaped_escape, escaped, bad_escape, has_flag}
+use Rattle.frame.specs.Framing.{flag, escape, escaped_flag, escaped_escape, escaped, bad_escape}
 use Rattle.frame.specs.Escapes.{after, meant, meant_by, unescaped}
 use Rattle.frame.specs.Segment.{Segment}
 use Rattle.frame.specs.declared.escaping.Escaping.{Escaping}
 use Rattle.frame.specs.declared.escaping.Escaping.TheVariants.{Outside, Pending, Broken}
 use Rattle.frame.proofs.Escaped.{reads_back, only_frames_read}
 use Rattle.packet.specs.Limits.{min_packet}
-use Rattle.packet.specs.Addresses.{forbidden}
 use Rattle.packet.specs.Packets.{Parts, packed, parts_of, Bytes}
-use Rattle.packet.specs.Reading.{none, reading_causes}
+use Rattle.packet.specs.Reading.{none}
 use Rattle.packet.specs.Judging.{is_for, right_way, judge_packet, judge_bytes, judge}
 use Rattle.packet.specs.Valid.{Valid, Came, ExactlyValid}
 use Rattle.packet.specs.declared.causes.DropCause.{DropCause}
-use Rattle.packet.specs.declared.causes.DropCause.TheVariants.{LineFault, Empty, BadEscape, TooLong, TooShort, WrongCrc, NullSource, ForbiddenSource, NotForUs, WrongDirection}
+use Rattle.packet.specs.declared.causes.DropCause.TheVariants.{LineFault, Empty, BadEscape, NullSource, ForbiddenSource, NotForUs, WrongDirection}
 use Rattle.packet.specs.declared.judging.Station.{Station}
 use Rattle.packet.proofs.Forms.{packed_length}
 use Rattle.packet.proofs.Verdicts.{past}

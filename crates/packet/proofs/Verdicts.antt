@@ -1,5 +1,5 @@
 -- The first cause that applies, or none.
-use Rattle.std.proofs.Common.{◌≡◌, ℕ, Bool, true, false, cond, List, [], ◌∷◌, Ok, Err, Result, sym, refl, arith}
+use Rattle.std.proofs.Common.{◌≡◌, ℕ, Bool, true, false, cond, List, [], ◌∷◌, Ok, Err, Result, refl, arith}
 use Rattle.packet.specs.Causes.{first_cause}
 use Rattle.packet.specs.declared.causes.DropCause.{DropCause}
 

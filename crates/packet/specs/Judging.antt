@@ -1,6 +1,6 @@
 -- Judging a segment: it is dropped for the first cause that applies, or its packet is valid to the station that judges it.
 -- A segment is judged by itself.
-use Rattle.std.specs.Prelude.{ℕ, Bool, true, false, not, ◌&&◌, ◌||◌, List, [], ◌∷◌, Ok, Result, ◌==◌}
+use Rattle.std.specs.Prelude.{ℕ, Bool, true, not, ◌&&◌, ◌||◌, List, [], ◌∷◌, Ok, Result, ◌==◌}
 use Rattle.frame.specs.Framing.{flag, escape, bad_escape}
 use Rattle.frame.specs.Escapes.{unescaped, in_escape}
 use Rattle.frame.specs.Segment.{Segment}

@@ -1,6 +1,6 @@
 -- What a valid segment is, said without judging: no fault was reported in it, and it is what framing a proper packet writes between
 -- its two flags, from a process that may send, for this station and in the right direction.
-use Rattle.std.specs.Prelude.{◌≡◌, ◌≤◌, Bool, true, false, length, Ok, Result}
+use Rattle.std.specs.Prelude.{◌≡◌, ◌≤◌, true, false, length, Ok, Result}
 use Rattle.frame.specs.Limits.{max_packet}
 use Rattle.frame.specs.Framing.{escaped, has_flag}
 use Rattle.frame.specs.Segment.{Segment}

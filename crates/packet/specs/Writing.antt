@@ -1,5 +1,5 @@
 -- What writing a packet answers and leaves in a buffer of some length.
-use Rattle.std.specs.Prelude.{◌≡◌, ℕ, ◌+◌, Bool, true, false, cond, List, length, is_ok, Ok, Err, Result, OnOk, nat_lt}
+use Rattle.std.specs.Prelude.{◌≡◌, ℕ, ◌+◌, cond, List, length, is_ok, Ok, Err, Result, OnOk, nat_lt}
 use Rattle.refusals.specs.declared.Refusal.{Refusal}
 use Rattle.refusals.specs.declared.Refusal.TheVariants.{ShortBuffer, TooMuchData}
 use Rattle.frame.specs.Buffer.{laid}

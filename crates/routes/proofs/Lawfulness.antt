@@ -1,11 +1,11 @@
 -- What is done to the entries of a table keeps them lawful.
-use Rattle.std.proofs.Common.{◌≡◌, ℕ, zero, suc, ◌+◌, ◌-◌, ◌<◌, ◌≤◌, Bool, true, false, cond, not, ◌&&◌, ◌||◌, leb, List, [], ◌∷◌, ◌++◌, length, get_or, take, drop, set, sym, refl, ap, ◌∙◌, subst, arith, length-set}
+use Rattle.std.proofs.Common.{◌≡◌, ℕ, zero, suc, ◌+◌, ◌<◌, ◌≤◌, Bool, true, false, cond, ◌&&◌, leb, List, [], ◌∷◌, length, get_or, set, sym, refl, ap, ◌∙◌, subst, arith, length-set}
 use Rattle.std.specs.List.{remove}
 use Rattle.std.proofs.lemmas.List.Edits.{length-remove}
-use Rattle.std.proofs.lemmas.Bool.{and_parts, and_from, or_parts, leb-true, le-leb, true≢false, cases_Bool}
+use Rattle.std.proofs.lemmas.Bool.{and_parts, and_from, leb-true, le-leb}
 use Rattle.routes.specs.Limits.{max_routes}
 use Rattle.routes.specs.Acceptable.{acceptable}
-use Rattle.routes.specs.Order.{of_subnet, same_subnet, before}
+use Rattle.routes.specs.Order.{before}
 use Rattle.routes.specs.Insert.{has_subnet, renewed, updated, placed}
 use Rattle.routes.specs.Ageing.{with_life}
 use Rattle.routes.specs.Places.{at_place, First}

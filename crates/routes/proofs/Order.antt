@@ -1,13 +1,8 @@
 -- The order of entries: it is transitive, entries in order are of two subnets, and of two acceptable entries for two subnets one stands
 -- before the other.
-use Rattle.std.proofs.Common.{◌≡◌, ℕ, ◌<◌, Bool, true, false, ◌&&◌, eqb, ltb, leb, ap, arith}
-use lib.Bits.{bit_and}
-use lib.Count.{ones}
-use Rattle.std.proofs.lemmas.Bool.{and_parts}
+use Rattle.std.proofs.Common.{◌≡◌, true, false, arith}
 use Rattle.std.proofs.lemmas.Bool.Decides.{nat_tests}
-use Rattle.routes.specs.Limits.{max_life}
 use Rattle.routes.specs.Masks.{is_mask}
-use Rattle.routes.specs.Acceptable.{acceptable, is_port}
 use Rattle.routes.specs.Order.{same_subnet, before}
 use Rattle.routes.specs.declared.route.Route.{Route}
 use Rattle.routes.proofs.Masks.{same_mask}

@@ -1,7 +1,6 @@
 -- The entries in use, by the array that holds them.
-use Rattle.std.proofs.Common.{◌≡◌, ℕ, zero, suc, ◌<◌, ◌≤◌, List, [], ◌∷◌, length, get_or, take, set, sym, refl, ap, ◌∙◌, arith}
+use Rattle.std.proofs.Common.{◌≡◌, ℕ, zero, suc, ◌<◌, List, [], ◌∷◌, length, get_or, take, set, sym, refl, ap, ◌∙◌, arith}
 use Rattle.std.proofs.lemmas.List.{length-take-le, get_or-take}
-use Rattle.routes.specs.Limits.{max_routes}
 use Rattle.routes.specs.Listed.{listed}
 use Rattle.routes.specs.Start.{start_route}
 use Rattle.routes.specs.Ageing.{with_life}

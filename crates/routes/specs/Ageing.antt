@@ -1,7 +1,6 @@
 -- A clock step shortens each life. A step as long as the life that is left, or longer, uses it up, and the entry goes. A life of 0 is
 -- none, and the entry stays as it is.
 use Rattle.std.specs.Prelude.{ℕ, ◌-◌, cond, List, [], ◌∷◌, Some, None, Option, ◌==◌, nat_lt}
-use Rattle.std.specs.Option.{option_map}
 use Rattle.routes.specs.declared.route.Route.{Route}
 
 -- the life after a step, unless it is used up

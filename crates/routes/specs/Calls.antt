@@ -1,5 +1,5 @@
 -- What a call on a table answers and leaves.
-use Rattle.std.specs.Prelude.{◌≡◌, ℕ, Bool, true, false, cond, not, ◌&&◌, List, length, is_ok, Some, Ok, Err, Result, nat_le}
+use Rattle.std.specs.Prelude.{◌≡◌, Bool, true, false, cond, not, ◌&&◌, List, length, is_ok, Some, Ok, Err, Result, nat_le}
 use Rattle.routes.specs.Limits.{max_routes}
 use Rattle.routes.specs.Acceptable.{acceptable}
 use Rattle.routes.specs.Insert.{has_subnet, insert}

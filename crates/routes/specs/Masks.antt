@@ -1,5 +1,5 @@
 -- A mask is a byte of ones followed by zeros: read from the lowest bit on, zeros and then ones.
-use Rattle.std.specs.Prelude.{◌≡◌, ℕ, zero, suc, ◌+◌, ◌-◌, ◌/◌, ◌%◌, Bool, true, false, cond, ◌&&◌, List, [], ◌∷◌, ◌==◌, count_ones, nat_lt}
+use Rattle.std.specs.Prelude.{◌≡◌, ℕ, zero, suc, ◌+◌, ◌-◌, ◌/◌, ◌%◌, Bool, true, cond, ◌&&◌, List, [], ◌∷◌, ◌==◌, count_ones, nat_lt}
 use Rattle.std.specs.Int.Count.{count_leading_zeros}
 
 -- the lowest bits of a number, so many of them, lowest first

@@ -1,5 +1,5 @@
 -- Where entries stand and belong in a list of entries.
-use Rattle.std.specs.Prelude.{◌≡◌, ℕ, ◌<◌, ◌≤◌, Bool, true, false, List, length, take, Some, None, Option, slice_index_or}
+use Rattle.std.specs.Prelude.{◌≡◌, ℕ, ◌<◌, ◌≤◌, true, false, List, length, take, Some, None, Option, slice_index_or}
 use Rattle.std.specs.List.{insert, remove as removed}
 use Rattle.routes.specs.Start.{start_route}
 use Rattle.routes.specs.Order.{of_subnet}

@@ -1,5 +1,5 @@
 -- Taking out the entry for a subnet, if there is one. Port and life play no part.
-use Rattle.std.specs.Prelude.{ℕ, Bool, cond, List, [], ◌∷◌, Some, None, Option}
+use Rattle.std.specs.Prelude.{ℕ, cond, List, [], ◌∷◌, Some, None, Option}
 use Rattle.std.specs.Option.{option_map}
 use Rattle.routes.specs.Order.{of_subnet}
 use Rattle.routes.specs.declared.route.Route.{Route}

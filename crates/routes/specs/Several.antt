@@ -1,5 +1,5 @@
 -- Several entries at once: all of them in order, or none.
-use Rattle.std.specs.Prelude.{◌≡◌, ℕ, Bool, true, false, cond, not, ◌&&◌, List, [], ◌∷◌, length, is_ok, Some, None, Ok, Err, Option, Result, nat_lt}
+use Rattle.std.specs.Prelude.{◌≡◌, Bool, true, false, cond, not, ◌&&◌, List, [], ◌∷◌, length, is_ok, Some, None, Ok, Err, Option, Result, nat_lt}
 use Rattle.std.specs.Option.{unwrap_or}
 use Rattle.routes.specs.Entries.{can_add}
 use Rattle.routes.specs.Insert.{has_subnet, insert}

@@ -1,7 +1,6 @@
-use Rattle.std.proofs.Common.{◌≡◌, ℕ, ◌+◌, ◌<◌, ◌≤◌, List, ◌++◌, length, get_or, take, Option, sym, refl, ap, ◌∙◌, arith, length-append}
+use Rattle.std.proofs.Common.{◌≡◌, ℕ, ◌+◌, ◌<◌, List, ◌++◌, length, get_or, take, Option, sym, refl, ap, ◌∙◌, arith, length-append}
 use Rattle.std.specs.Option.{option_to_list}
 use Rattle.std.proofs.lemmas.List.{take_all}
-use Rattle.frame.specs.Buffer.{Lays}
 use Rattle.frame.specs.Escapes.{after, meant, after_all, meant_by, unescaped}
 use Rattle.frame.specs.declared.escaping.Escaping.{Escaping}
 use Rattle.frame.specs.declared.escaping.Escaping.TheVariants.{Outside}

@@ -1,4 +1,4 @@
-use Rattle.std.proofs.Common.{◌≡◌, List, [], ◌∷◌, ◌++◌, length, refl, ap, ◌∙◌, arith}
+use Rattle.std.proofs.Common.{[], ◌∷◌, ◌++◌, arith}
 use Rattle.frame.specs.Framing.{flag, escaped, framed}
 use Rattle.frame.proofs.Buffers.{lays_then, lays_front}
 use Rattle.frame.proofs.Frames.{framed_length}

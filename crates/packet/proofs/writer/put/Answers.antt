@@ -1,4 +1,4 @@
-use Rattle.std.proofs.Common.{◌≡◌, ℕ, ◌+◌, ◌-◌, List, length, sym, refl, subst, arith}
+use Rattle.std.proofs.Common.{ℕ, ◌+◌, ◌-◌, List, length, sym, refl, subst, arith}
 use borrow.Rule.Slice.PartMut.{put_mid}
 use Rattle.frame.specs.Buffer.{Lays}
 use Rattle.frame.proofs.Buffers.{lays_part}

@@ -1,6 +1,5 @@
-use Rattle.std.proofs.Common.{◌≡◌, ℕ, ◌+◌, ◌≤◌, Bool, ltb, List, length, Result, sym, ◌∙◌, subst, arith}
+use Rattle.std.proofs.Common.{ℕ, ◌+◌, ltb, List, length, sym, subst, arith}
 use Rattle.std.proofs.lemmas.Bool.{cond_both, ltb-false}
-use Rattle.refusals.specs.declared.Refusal.{Refusal}
 use Rattle.packet.specs.Limits.{min_packet, max_data}
 use Rattle.packet.specs.Writing.{headed, write_answer, WrittenReads}
 use Rattle.packet.specs.declared.writer.Header.{Header}

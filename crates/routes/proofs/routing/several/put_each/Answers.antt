@@ -1,4 +1,4 @@
-use Rattle.std.proofs.Common.{◌≡◌, ◌+◌, ◌<◌, List, length, drop, is_ok, Err, sym, ap, ◌∙◌, arith}
+use Rattle.std.proofs.Common.{◌+◌, ◌<◌, List, length, drop, is_ok, Err, sym, ap, ◌∙◌, arith}
 use Rattle.std.proofs.lemmas.List.{at_drop_all}
 use Rattle.std.proofs.lemmas.Result.{err_from_is_err_and}
 use Rattle.routes.specs.Insert.{insert}
@@ -6,7 +6,6 @@ use Rattle.routes.specs.Limits.{max_routes}
 use Rattle.routes.specs.Listed.{listed}
 use Rattle.routes.specs.Several.{insert_all}
 use Rattle.routes.specs.declared.entry.Entry.{Entry}
-use Rattle.routes.specs.declared.route.Route.{Route}
 use Rattle.routes.proofs.Lawfulness.{kept}
 use Rattle.routes.proofs.Several.{next_entry, next_can, insert_more, insert_all_grows, was_put, adds_none, adds_all}
 use Rattle.routes.proofs.routing.several.put_each.Goals as goal

@@ -1,6 +1,5 @@
-use Rattle.std.proofs.Common.{◌≡◌, ◌+◌, ◌-◌, ◌<◌, ◌≤◌, List, length, set, sym, ap, ◌∙◌, subst, arith, length-set}
+use Rattle.std.proofs.Common.{◌+◌, ◌<◌, List, length, set, sym, ap, ◌∙◌, subst, arith, length-set}
 use Rattle.routes.specs.Lawful.{lawful}
-use Rattle.routes.specs.Limits.{max_routes}
 use Rattle.routes.specs.Listed.{listed}
 use Rattle.routes.specs.Places.{Belongs}
 use Rattle.routes.specs.declared.route.Route.{Route}

@@ -1,4 +1,4 @@
-use Rattle.std.proofs.Common.{◌≡◌, ◌<◌, ◌≤◌, length, ap, ◌∙◌, arith}
+use Rattle.std.proofs.Common.{◌≤◌, length, ap, ◌∙◌, arith}
 use Rattle.routes.specs.Lawful.{lawful}
 use Rattle.routes.specs.Listed.{listed}
 use Rattle.routes.proofs.Lawfulness.{lawful_removed}
