@@ -2,4 +2,4 @@ pub mod Texts
 pub mod Dumped
 pub mod Hearing
 pub mod Monitored
-pub mod Heard
+pub mod Silent

@@ -1,5 +1,5 @@
 -- A monitor that obeyed some lines holds the segment that is open behind them.
-use Rattle.std.specs.Prelude.{◌≡◌, ℕ, List, length}
+use Rattle.std.specs.Prelude.{◌≡◌, List, length}
 use Rattle.frame.specs.Limits.{max_packet}
 use Rattle.frame.specs.Receiving.{Holds}
 use Rattle.bench.specs.Lines.{LineValue}

@@ -8,7 +8,7 @@ ghost use Rattle.session.specs.Obeying.{Obeys};
 ghost use Rattle.dump.specs.Dumped.{dumped};
 ghost use Rattle.dump.specs.Hearing.{Hears};
 ghost use Rattle.dump.specs.Monitored.{Heard};
-ghost use Rattle.dump.specs.Heard.{silent_start};
+ghost use Rattle.dump.specs.Silent.{silent_start};
 
 use crate::texts::verdict_text;
 use bench::line::Line;

@@ -1,5 +1,5 @@
 -- What the code's requests ask for.
-use Rattle.std.specs.Prelude.{ℕ, Ok, Err, Result}
+use Rattle.std.specs.Prelude.{Ok, Err, Result}
 use Rattle.array_vec.specs.Held.{held}
 use Rattle.requests.specs.Requests as means
 use Rattle.requests.specs.declared.naks.Nak.{Nak}

@@ -1,5 +1,5 @@
 -- Data made of items of equal size: addresses of two bytes, pairs of an address and a value of four bytes, entries of eight bytes.
-use Rattle.std.specs.Prelude.{ℕ, zero, suc, ◌/◌, ◌%◌, Bool, cond, ◌&&◌, List, [], ◌∷◌, length, drop, Some, None, Option, ◌==◌, nat_le, slice_index}
+use Rattle.std.specs.Prelude.{ℕ, zero, suc, ◌/◌, ◌%◌, cond, ◌&&◌, List, [], ◌∷◌, length, drop, Some, None, Option, ◌==◌, nat_le, slice_index}
 use Rattle.words.specs.Words.{word16, word32}
 use Rattle.device.specs.declared.assignments.Assignment.{Assignment}
 

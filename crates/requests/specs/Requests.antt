@@ -1,5 +1,5 @@
 -- What a valid packet asks a node for, by its packet type, its supplement and its data; or the cause of the NAK that it gets.
-use Rattle.std.specs.Prelude.{ℕ, ◌+◌, Bool, cond, ◌&&◌, List, [], ◌∷◌, length, drop, Some, None, Ok, Err, Option, Result, ◌==◌, nat_le, slice_index}
+use Rattle.std.specs.Prelude.{ℕ, ◌+◌, cond, ◌&&◌, List, length, drop, Some, None, Ok, Err, Option, Result, ◌==◌, nat_le, slice_index}
 use Rattle.words.specs.Words.{word16, word32}
 use Rattle.packet.specs.Types.{ss, pktype, type_named}
 use Rattle.packet.specs.Packets.{Parts}

@@ -1,6 +1,6 @@
 use Rattle.std.proofs.Common.{Ok, ap}
 use Rattle.packet.specs.Reading.{shown_in}
-use Rattle.dump.specs.Heard.{hears_segment, hears_byte}
+use Rattle.dump.proofs.Heard.{hears_segment, hears_byte}
 use Rattle.dump.proofs.monitor.hear.Goals as goal
 
 pub returns-in-Some : goal.returns-in-Some

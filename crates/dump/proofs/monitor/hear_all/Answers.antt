@@ -1,9 +1,9 @@
-use Rattle.std.proofs.Common.{◌≡◌, ℕ, ◌+◌, List, [], ◌∷◌, ◌++◌, map, length, get_or, take, string_bytes, sym, ap, ◌∙◌, subst, arith}
+use Rattle.std.proofs.Common.{◌≡◌, ℕ, List, [], ◌∷◌, ◌++◌, map, get_or, take, string_bytes, sym, ap, ◌∙◌, subst, arith}
 use Rattle.std.proofs.lemmas.List.{map_more, take_all}
 use Rattle.frame.specs.Arrivals.{Arrival}
 use Rattle.frame.specs.Arrivals.Arrival.{byte}
 use Rattle.dump.specs.Hearing.{Hears}
-use Rattle.dump.specs.Heard.{hears_none, hears_on}
+use Rattle.dump.proofs.Heard.{hears_none, hears_on}
 use Rattle.dump.proofs.monitor.hear_all.Goals as goal
 
 pub loop-byte-init : goal.loop-byte-init

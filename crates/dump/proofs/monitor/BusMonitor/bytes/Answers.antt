@@ -1,5 +1,5 @@
 use Rattle.bench.specs.Lines.LineValue.{bytes}
-use Rattle.dump.specs.Heard.{obeys_heard}
+use Rattle.dump.proofs.Heard.{obeys_heard}
 use Rattle.dump.proofs.monitor.BusMonitor.bytes.Goals as goal
 
 pub returns : goal.returns

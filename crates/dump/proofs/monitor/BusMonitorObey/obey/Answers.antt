@@ -1,4 +1,4 @@
-use Rattle.std.proofs.Common.{◌≡◌, Ok, sym, refl, ap, subst}
+use Rattle.std.proofs.Common.{Ok, sym, refl, ap, subst}
 use Rattle.bench.specs.Lines.{LineValue}
 use Rattle.bench.specs.Lines.LineValue.{step, fault}
 use Rattle.session.specs.Obeying.{Obeys}
@@ -6,7 +6,7 @@ use Rattle.bench.specs.Values.{value_of}
 use Rattle.dump.specs.Dumped.{dumped}
 use Rattle.dump.specs.Monitored.{Heard}
 use Rattle.dump.specs.declared.monitor.BusMonitor.{BusMonitor}
-use Rattle.dump.specs.Heard.{hears_none, hears_fault, obeys_heard}
+use Rattle.dump.proofs.Heard.{hears_none, hears_fault, obeys_heard}
 use Rattle.dump.proofs.monitor.BusMonitorObey.obey.Goals as goal
 
 pub returns-in-Step : goal.returns-in-Step

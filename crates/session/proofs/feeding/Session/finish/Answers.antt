@@ -1,4 +1,4 @@
-use Rattle.std.proofs.Common.{◌≡◌, length, sym, ap, ◌∙◌, arith}
+use Rattle.std.proofs.Common.{sym, ◌∙◌}
 use Rattle.std.proofs.lemmas.Bool.{eqb-true, eqb-false}
 use Rattle.session.proofs.Sessions.{finishes_stopped, finishes_empty, finishes_text}
 use Rattle.session.proofs.feeding.Session.finish.Goals as goal

@@ -1,12 +1,11 @@
 -- What a receiver hears, and what is written of it.
-use Rattle.std.specs.Prelude.{◌≡◌, ℕ, ◌≤◌, Bool, true, false, cond, List, [], ◌∷◌, ◌++◌, length, IfOk, Some, None, Ok, Err, string_bytes, Option, Result, String, ◌≢◌, refl}
+use Rattle.std.specs.Prelude.{◌≡◌, ℕ, cond, List, [], ◌∷◌, ◌++◌, length, IfOk, Some, None, Ok, Err, string_bytes, Option, Result, String, ◌≢◌, refl}
 use Rattle.std.proofs.Common.{sym, ap, subst, ◌∙◌, ⊎_elim, append-nil, append_assoc, arith}
 use Rattle.std.specs.List.{flat_map}
 use Rattle.std.specs.declared.alloc.AllocError.{AllocError}
 use Rattle.std.specs.declared.alloc.Global.{Global}
 use Rattle.std.proofs.lemmas.Bool.{cases_eq, eq-eqb, ne_eqb}
 use Rattle.refusals.specs.declared.Refusal.{Refusal}
-use Rattle.frame.specs.Limits.{max_packet}
 use Rattle.frame.specs.Framing.{flag}
 use Rattle.frame.specs.Segment.{Segment, no_bytes, with_byte, with_fault}
 use Rattle.frame.specs.Arrivals.{Arrival, closed, left_open}
@@ -119,7 +118,3 @@ obeys_heard m m' v text kept hears vs h =
           ∙ joined_append segment_text (closed no_bytes came) (closed (open_segment vs) (arrivals_of v))
           ∙ ap (λ (l : List ℕ). dumped vs ++ l) (sym a.1),
     )
-
-pub silent_start : dumped [] ≡ []
-unfolding closed
-silent_start = refl
