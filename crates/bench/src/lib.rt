@@ -10,7 +10,7 @@ pub mod hex;
 pub mod line;
 mod reading;
 
-/// The most bytes that a line has before its line feed: `max-line` of the definitions.
+/// The most bytes that a line has before its line feed: `max_line` of the definitions.
 pub const MAX_LINE: usize = 300;
 
 #[cfg(test)]

@@ -1,4 +1,4 @@
--- The sizes of packets. The code's constants MIN_PACKET, DATA_OFFSET and MAX_DATA are these numbers; the longest packet is framing's `max-packet`.
+-- The sizes of packets. The code's constants MIN_PACKET, DATA_OFFSET and MAX_DATA are these numbers; the longest packet is framing's `max_packet`.
 use Rattle.std.specs.Prelude.{ℕ}
 
 -- the fewest bytes that a packet has: destination, source, type and two bytes of CRC
