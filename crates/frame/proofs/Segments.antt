@@ -1,122 +1,110 @@
 -- A receiver's digest and memory hold the whole segment, byte after byte.
-use Rattle.std.proofs.Common.{◌≡◌, ℕ, ◌≤◌, min, Bool, true, false, cond, eqb, ltb, List, [], ◌∷◌, ◌++◌, length, take, set, Some, None, Ok, Err, Option, Result, sym, refl, ap, ◌∙◌, subst, ⊎_elim, append-nil, arith}
+use Rattle.std.proofs.Common.{◌≡◌, ℕ, ◌+◌, ◌<◌, ◌≤◌, true, false, eqb, List, [], ◌∷◌, ◌++◌, length, take, set, Some, None, Option, Result, unwrap_or, sym, refl, ap, ◌∙◌, subst, ⊎_elim, append-nil, arith}
 use Rattle.std.specs.Option.{option_to_list}
 use Rattle.refusals.specs.declared.Refusal.{Refusal}
-use Rattle.refusals.specs.declared.Refusal.TheVariants.{ShortBuffer}
 use Rattle.std.proofs.lemmas.List.{take_more_set, take_all, take-append-le, length_push}
-use Rattle.std.proofs.lemmas.Bool.{lt-ltb, le-ltb, eq-eqb, ne_eqb, cases_lt, cond_both}
+use Rattle.std.proofs.lemmas.Bool.{lt-ltb, le-ltb, eq-eqb, ne_eqb, cases_lt}
 use Rattle.frame.specs.Limits.{max_packet}
 use Rattle.frame.specs.Framing.{flag}
 use Rattle.frame.specs.Escapes.{after, meant, after_all, meant_by, unescaped}
-use Rattle.frame.specs.Segment.{Segment, no_bytes, with_byte, with_fault}
-use Rattle.frame.specs.Receiving.{blank, one_more, too_many, counted, digested, fault_digested, stored, too_short, byte_tells, byte_leaves, byte_places, Holds, Receives}
+use Rattle.frame.specs.Segment.{Segment, no_bytes, with_byte}
+use Rattle.frame.specs.Receiving.{blank, counted, digested, kept, stored, too_short, byte_tells, byte_leaves, byte_places, few, Holds, Receives}
 use Rattle.frame.specs.declared.escaping.Escaping.{Escaping}
 use Rattle.frame.specs.declared.escaping.Escaping.TheVariants.{Outside}
 use Rattle.frame.specs.declared.receiver.Digest.{Digest}
-use Rattle.frame.specs.declared.receiver.Receiver.{Receiver}
 use Rattle.frame.proofs.Escaped.{after_append, meant_append}
 
 pub holds_none : (memory : List ℕ) → Holds blank memory no_bytes
 unfolding after_all meant_by
-holds_none memory = record { count = refl; front = refl; more = refl; escaping = refl; faulted = refl }
-
-pub holds_fault : (d : Digest) (memory : List ℕ) (s : Segment) → Holds d memory s → Holds (fault_digested d) memory (with_fault s)
-holds_fault d memory s h = record { count = h.count; front = h.front; more = h.more; escaping = h.escaping; faulted = refl }
+holds_none memory = record { count = refl; front = refl; escaping = refl; faulted = refl }
 
 -- ---- one more byte
 
 -- the part of `Holds` that speaks of the unescaped bytes
-record Gathered (d : Digest) (memory unescaped : List ℕ) : Type 0 where
-  count : d.count ≡ min max_packet (length unescaped)
-  front : take d.count memory ≡ take max_packet unescaped
-  more : d.more ≡ ltb max_packet (length unescaped)
+record Gathered (count : Option ℕ) (memory unescaped : List ℕ) : Type 0 where
+  count_is : count ≡ few unescaped
+  front : take (unwrap_or count max_packet) memory ≡ take max_packet unescaped
 
-gathered_more : (o : Option ℕ) (d : Digest) (memory u : List ℕ) → max_packet ≤ length memory → Gathered d memory u
-    → Gathered (counted o d) (stored o d.count memory) (u ++ option_to_list o)
-gathered_more None d memory u room g = subst (Gathered d memory) (sym (append-nil u)) g
-gathered_more (Some c) d memory u room g =
+few_all : (u : List ℕ) → length u ≤ max_packet → few u ≡ Some (length u)
+few_all u h = rw (le-ltb max_packet (length u) h) refl
+
+few_none : (u : List ℕ) → max_packet < length u → few u ≡ None
+few_none u h = rw (lt-ltb max_packet (length u) h) refl
+
+-- one more byte that has room in the longest packet, and one that has none
+gathered_one : (c : ℕ) (memory u : List ℕ) → max_packet ≤ length memory → length u < max_packet → take (length u) memory ≡ take max_packet u
+    → Gathered (Some (length u + 1)) (set memory (length u) c) (u ++ c ∷ [])
+gathered_one c memory u room fits front =
     let longer = length_push u c in
-    ⊎_elim
-    (λ fits.
-    let n : d.count ≡ length u = omega (arith, g.count) in
-    let t : ltb d.count max_packet ≡ true = lt-ltb d.count max_packet (omega arith) in
-    subst (λ (x : Bool). Gathered (cond x (one_more d) (too_many d)) (cond x (set memory d.count c) memory) (u ++ c ∷ [])) (sym t)
-    (record {
-      count = omega (arith, longer);
+    record {
+      count_is = ap Some (sym longer) ∙ sym (few_all (u ++ c ∷ []) (omega (arith, longer)));
       front =
-          take_more_set memory d.count c (omega arith)
-          ∙ ap (λ (l : List ℕ). l ++ c ∷ []) (g.front ∙ take_all max_packet u (omega arith))
-          ∙ sym (take_all max_packet (u ++ c ∷ []) (omega arith));
-      more = g.more ∙ le-ltb max_packet (length u) (omega arith) ∙ sym (le-ltb max_packet (length (u ++ c ∷ [])) (omega arith));
-    }))
-    (λ full.
-    let t : ltb d.count max_packet ≡ false = le-ltb d.count max_packet (omega (arith, g.count)) in
-    subst (λ (x : Bool). Gathered (cond x (one_more d) (too_many d)) (cond x (set memory d.count c) memory) (u ++ c ∷ [])) (sym t)
-    (record {
-      count = omega (arith, longer, g.count);
-      front = g.front ∙ sym (take-append-le max_packet u (c ∷ []) full);
-      more = sym (lt-ltb max_packet (length (u ++ c ∷ [])) (omega arith));
-    }))
-    (cases_lt (length u) max_packet)
+          take_more_set memory (length u) c (omega arith)
+          ∙ ap (λ (l : List ℕ). l ++ c ∷ []) (front ∙ take_all max_packet u (omega arith))
+          ∙ sym (take_all max_packet (u ++ c ∷ []) (omega (arith, longer)));
+    }
 
-counted_faulted : (o : Option ℕ) (d : Digest) → (counted o d).faulted ≡ d.faulted
-counted_faulted None d = refl
-counted_faulted (Some c) d =
-    cond_both (ltb d.count max_packet) (one_more d) (too_many d) (λ e. e.faulted ≡ d.faulted) (λ _. refl) (λ _. refl)
+gathered_full : (c : ℕ) (memory u : List ℕ) → max_packet ≤ length u → take max_packet memory ≡ take max_packet u → Gathered None memory (u ++ c ∷ [])
+gathered_full c memory u full front = record {
+  count_is = sym (few_none (u ++ c ∷ []) (omega (arith, length_push u c)));
+  front = front ∙ sym (take-append-le max_packet u (c ∷ []) full);
+}
+
+gathered_more : (o : Option ℕ) (count : Option ℕ) (memory u : List ℕ) → max_packet ≤ length memory → Gathered count memory u
+    → Gathered (counted o count) (stored o (unwrap_or count max_packet) memory) (u ++ option_to_list o)
+gathered_more None count memory u room g = subst (Gathered count memory) (sym (append-nil u)) g
+gathered_more (Some c) None memory u room g =
+    ⊎_elim
+    (λ over. gathered_full c memory u (omega arith) g.front)
+    (λ fits. let e = few_all u fits in absurd (cc (g.count_is, e)))
+    (cases_lt max_packet (length u))
+gathered_more (Some c) (Some n) memory u room g =
+    ⊎_elim
+    (λ over. let e = few_none u over in absurd (cc (g.count_is, e)))
+    (λ fits.
+    let is : n ≡ length u = cc (g.count_is, few_all u fits) in
+    ⊎_elim
+    (λ less. rw (is, lt-ltb (length u) max_packet less) (gathered_one c memory u room less (subst (λ (k : ℕ). take k memory ≡ take max_packet u) is g.front)))
+    (λ full.
+    let n128 : n ≡ max_packet = omega arith in
+    rw n128 (gathered_full c memory u full (subst (λ (k : ℕ). take k memory ≡ take max_packet u) n128 g.front)))
+    (cases_lt (length u) max_packet))
+    (cases_lt max_packet (length u))
 
 pub holds_byte : (d : Digest) (memory : List ℕ) (s : Segment) (b : ℕ) → max_packet ≤ length memory → Holds d memory s
-    → Holds (digested d b) (stored (meant d.escaping b) d.count memory) (with_byte s b)
+    → Holds (digested d b) (stored (meant d.escaping b) (kept d) memory) (with_byte s b)
 unfolding after_all meant_by
 holds_byte d memory s b room h =
     let o = meant d.escaping b in
     let u = unescaped s.came in
-    let g : Gathered d memory u = record { count = h.count; front = h.front; more = h.more } in
     let v : u ++ option_to_list o ≡ unescaped (s.came ++ b ∷ []) =
     ap (λ (e : Escaping). u ++ option_to_list (meant e b)) h.escaping
     ∙ ap (λ (l : List ℕ). u ++ l) (sym (append-nil (option_to_list (meant (after_all Outside s.came) b))))
     ∙ sym (meant_append Outside s.came (b ∷ [])) in
-    let k : Gathered (counted o d) (stored o d.count memory) (unescaped (s.came ++ b ∷ [])) =
-    subst (Gathered (counted o d) (stored o d.count memory)) v (gathered_more o d memory u room g) in
+    let k : Gathered (counted o d.count) (stored o (kept d) memory) (unescaped (s.came ++ b ∷ [])) =
+    subst (Gathered (counted o d.count) (stored o (kept d) memory)) v (gathered_more o d.count memory u room (record { count_is = h.count; front = h.front })) in
     record {
-      count = k.count;
+      count = k.count_is;
       front = k.front;
-      more = k.more;
       escaping = ap (λ (e : Escaping). after e b) h.escaping ∙ sym (after_append Outside s.came (b ∷ []));
-      faulted = counted_faulted o d ∙ h.faulted;
+      faulted = h.faulted;
     }
 
 -- ---- a call
 
-receives_so : (r : Receiver) (b : ℕ) (memory : List ℕ)
-    → Receives r b memory (byte_tells r b memory) (byte_leaves r b memory) (byte_places r b memory)
-receives_so r b memory = record {
+receives_so : (d : Digest) (b : ℕ) (memory : List ℕ)
+    → Receives d b memory (byte_tells d b memory) (byte_leaves d b memory) (byte_places d b memory)
+receives_so d b memory = record {
   at_flag = λ s room f h.
       let t : too_short memory ≡ false = le-ltb (length memory) max_packet room in
       let e : eqb b flag ≡ true = eq-eqb b flag f in
-      let same : byte_places r b memory ≡ memory = (λ i. cond (t i) memory (cond (e i) memory (stored (meant r.digest.escaping b) r.digest.count memory))) in (
-        r.digest,
-        (λ i. cond (t i) (Err ShortBuffer) (Ok (cond (e i) (Some r.digest) None))),
-        subst (λ (l : List ℕ). Holds r.digest l s) (sym same) h,
-        subst (λ (x : Receiver). Holds x.digest (byte_places r b memory) no_bytes)
-            (sym (λ i. cond (t i) r (cond (e i) (record { digest = blank }) (record { digest = digested r.digest b }))))
-            (holds_none (byte_places r b memory)),
-      );
+      rw (t, e) (d, refl, h, holds_none memory);
   inside = λ s room n h.
       let t : too_short memory ≡ false = le-ltb (length memory) max_packet room in
-      let e : eqb b flag ≡ false = ne_eqb b flag n in (
-        (λ i. cond (t i) (Err ShortBuffer) (Ok (cond (e i) (Some r.digest) None))),
-        subst (λ (x : Receiver). Holds x.digest (byte_places r b memory) (with_byte s b))
-            (sym (λ i. cond (t i) r (cond (e i) (record { digest = blank }) (record { digest = digested r.digest b }))))
-            (subst (λ (l : List ℕ). Holds (digested r.digest b) l (with_byte s b))
-            (sym (λ i. cond (t i) memory (cond (e i) memory (stored (meant r.digest.escaping b) r.digest.count memory))))
-            (holds_byte r.digest memory s b room h)),
-      );
+      let e : eqb b flag ≡ false = ne_eqb b flag n in
+      rw (t, e) (refl, holds_byte d memory s b room h);
 }
 
-pub receives : (r : Receiver) (b : ℕ) (was : List ℕ) (told : Result (Option Digest) Refusal) (r' : Receiver) (is : List ℕ)
-    → told ≡ byte_tells r b was → r' ≡ byte_leaves r b was → is ≡ byte_places r b was → Receives r b was told r' is
-receives r b was told r' is p q m =
-    subst (λ (x : List ℕ). Receives r b was told r' x) (sym m)
-    (subst (λ (x : Receiver). Receives r b was told x (byte_places r b was)) (sym q)
-    (subst (λ (x : Result (Option Digest) Refusal). Receives r b was x (byte_leaves r b was) (byte_places r b was)) (sym p)
-    (receives_so r b was)))
+pub receives : (d : Digest) (b : ℕ) (was : List ℕ) (told : Result (Option Digest) Refusal) (d' : Digest) (is : List ℕ)
+    → told ≡ byte_tells d b was → d' ≡ byte_leaves d b was → is ≡ byte_places d b was → Receives d b was told d' is
+receives d b was told d' is p q m = rw (p, q, m) (receives_so d b was)

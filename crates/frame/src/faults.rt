@@ -2,26 +2,21 @@
 ghost use Rattle.std.specs.Prelude.{◌≡◌};
 ghost use Rattle.frame.specs.Faults.{fault_number};
 
-/// A fault of the line.
+/// A fault of the line, by its number: the monitoring count that it adds to.
 #[derive(Clone, Copy, PartialEq, Eq, Debug)]
 pub enum LineFault {
     /// A character had a wrong stop bit or parity.
-    Parity,
+    Parity = 0,
     /// Characters came faster than they were taken.
-    Overrun,
+    Overrun = 1,
     /// Another process sent while the line was ours.
-    Ownership,
+    Ownership = 5,
 }
 
-impl LineFault {
-    /// The fault's number: the monitoring count that it adds to.
-    pub fn number(self) -> u8
-        ensures { result ≡ fault_number self }
-    {
-        match self {
-            LineFault::Parity => 0,
-            LineFault::Overrun => 1,
-            LineFault::Ownership => 5,
-        }
+impl From<LineFault> for u8 {
+    ghost from_gives = { λ fault number. number ≡ fault_number fault };
+
+    fn from(fault: LineFault) -> u8 {
+        fault as u8
     }
 }

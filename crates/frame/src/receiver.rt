@@ -1,19 +1,18 @@
 //! The receiver: it takes what comes over the line byte by byte, and gathers the bytes that a segment stands for in memory lent to it.
 ghost use Rattle.std.specs.Prelude.{◌≡◌, ℕ, List, take};
 ghost use Rattle.frame.specs.Segment.{Segment, no_bytes, with_fault};
-ghost use Rattle.frame.specs.Receiving.{blank, digested, fault_digested, stored, byte_tells, byte_leaves, byte_places, Holds, Receives};
+ghost use Rattle.frame.specs.Receiving.{blank, one_more, kept, digested, fault_digested, stored, byte_tells, byte_leaves, byte_places, Holds, Receives};
 
 use crate::escaping::Escaping;
 use crate::{FLAG, MAX_PACKET};
 use refusals::Refusal;
+use std::marker::Model;
 
 /// What is kept of a segment beside the bytes that it stands for.
 #[derive(Clone, Copy)]
 pub struct Digest {
-    /// How many bytes it stands for, up to the longest packet.
-    pub count: usize,
-    /// It stands for more bytes than the longest packet has.
-    pub more: bool,
+    /// How many bytes it stands for, unless they are more than the longest packet has.
+    pub count: Option<usize>,
     /// Where its reading stands.
     pub escaping: Escaping,
     /// A line fault was reported in it.
@@ -21,14 +20,18 @@ pub struct Digest {
 }
 
 impl Digest {
+    /// How many of the bytes that it stands for are kept: those up to the longest packet.
+    fn kept(&self) -> usize
+        ensures { result ≡ kept self.now }
+    {
+        self.count.unwrap_or(MAX_PACKET)
+    }
+
     /// The bytes that the segment stands for, up to the longest packet, in the memory that they were gathered in.
     pub fn bytes<'a>(&self, memory: &'a [u8]) -> &'a [u8]
-        ensures { result.now ≡ take self.now.count memory.now }
+        ensures { result.now ≡ take (kept self.now) memory.now }
     {
-        if memory.len() <= self.count {
-            return memory;
-        }
-        &memory[0..self.count]
+        memory.get(..self.kept()).unwrap_or(memory)
     }
 
     /// Of a segment with no bytes.
@@ -36,10 +39,19 @@ impl Digest {
         ensures { result ≡ blank }
     {
         Digest {
-            count: 0,
-            more: false,
+            count: Some(0),
             escaping: Escaping::Outside,
             faulted: false,
+        }
+    }
+
+    /// The count with one more byte.
+    fn one_more(self) -> Option<usize>
+        ensures { result ≡ one_more self.count }
+    {
+        match self.count {
+            Some(count) if count < MAX_PACKET => Some(count + 1),
+            Some(_) | None => None,
         }
     }
 
@@ -47,16 +59,15 @@ impl Digest {
     fn with(self, byte: u8) -> Digest
         ensures { result ≡ digested self byte }
     {
-        let mut next = self;
-        if self.escaping.meant(byte).is_some() {
-            if self.count < MAX_PACKET {
-                next.count = self.count + 1;
-            } else {
-                next.more = true;
-            }
+        let count = match self.escaping.meant(byte) {
+            Some(_) => self.one_more(),
+            None => self.count,
+        };
+        Digest {
+            count,
+            escaping: self.escaping.after(byte),
+            ..self
         }
-        next.escaping = self.escaping.after(byte);
-        next
     }
 }
 
@@ -64,16 +75,11 @@ impl Digest {
 fn store(memory: &mut [u8], at: usize, byte: Option<u8>)
     ensures { memory.new ≡ stored byte at memory.old }
 {
-    let Some(meant) = byte else {
-        return;
-    };
-    if at >= MAX_PACKET {
-        return;
+    if let Some(meant) = byte {
+        if at < MAX_PACKET && at < memory.len() {
+            memory[at] = meant;
+        }
     }
-    if at >= memory.len() {
-        return;
-    }
-    memory[at] = meant;
 }
 
 /// A receiver, which holds an open segment: what came since the last flag, or since the receiver was made.
@@ -82,33 +88,26 @@ pub struct Receiver {
     digest: Digest,
 }
 
+/// A receiver stands for the digest of its open segment.
+impl Model for Receiver {
+    ghost use Rattle.frame.specs.declared.receiver.Digest.{Digest};
+
+    ghost Value = { Digest };
+
+    ghost view = { λ r. r.digest };
+
+    ghost inverse = { λ d. record { digest = d } };
+}
+
 impl Receiver {
     /// At the start of a segment.
     pub fn new() -> Receiver
-        ensures value { result.digest ≡ blank }
-        ensures segment { (memory : List ℕ) → Holds result.digest memory no_bytes }
+        ensures value { result ≡ blank }
+        ensures segment { (memory : List ℕ) → Holds result memory no_bytes }
     {
         Receiver {
             digest: Digest::empty(),
         }
-    }
-
-    fn take(&mut self, byte: u8, memory: &mut [u8]) -> Result<Option<Digest>, Refusal>
-        ensures told { result ≡ byte_tells self.old byte memory.old }
-        ensures after { self.new ≡ byte_leaves self.old byte memory.old }
-        ensures placed { memory.new ≡ byte_places self.old byte memory.old }
-    {
-        if memory.len() < MAX_PACKET {
-            return Err(Refusal::ShortBuffer);
-        }
-        let digest = self.digest;
-        if byte == FLAG {
-            self.digest = Digest::empty();
-            return Ok(Some(digest));
-        }
-        store(memory, digest.count, digest.escaping.meant(byte));
-        self.digest = digest.with(byte);
-        Ok(None)
     }
 
     /// Takes a byte. A flag closes the segment and tells its digest; the bytes that the segment stands for are then at the
@@ -119,13 +118,23 @@ impl Receiver {
         ensures placed { memory.new ≡ byte_places self.old byte memory.old }
         ensures segment { Receives self.old byte memory.old result self.new memory.new }
     {
-        self.take(byte, memory)
+        if memory.len() < MAX_PACKET {
+            return Err(Refusal::ShortBuffer);
+        }
+        let digest = self.digest;
+        if byte == FLAG {
+            self.digest = Digest::empty();
+            return Ok(Some(digest));
+        }
+        store(memory, digest.kept(), digest.escaping.meant(byte));
+        self.digest = digest.with(byte);
+        Ok(None)
     }
 
     /// Takes word of a line fault.
     pub fn fault(&mut self)
-        ensures after { self.new.digest ≡ fault_digested self.old.digest }
-        ensures segment { (memory : List ℕ) (s : Segment) → Holds self.old.digest memory s → Holds self.new.digest memory (with_fault s) }
+        ensures after { self.new ≡ fault_digested self.old }
+        ensures segment { (memory : List ℕ) (s : Segment) → Holds self.old memory s → Holds self.new memory (with_fault s) }
     {
         self.digest.faulted = true;
     }

@@ -1,12 +1,9 @@
+use Rattle.std.proofs.Common.{rules}
 use Rattle.frame.proofs.Segments.{receives}
 use Rattle.frame.proofs.receiver.Receiver.byte.Goals as goal
 
-pub returns : goal.returns
-returns c =
-    let e = c.take.ensures in
-    record {
-      told = e.told;
-      after = e.after;
-      placed = e.placed;
-      segment = receives c.args.self.now c.args.byte c.args.memory.now _ _ _ e.told e.after e.placed;
-    }
+pub returns-then-byte-eq-FLAG-clause-segment : goal.returns-then-byte-eq-FLAG-clause-segment
+returns-then-byte-eq-FLAG-clause-segment c = receives _ _ _ _ _ _ (search rules) (search rules) (search rules)
+
+pub returns-clause-segment : goal.returns-clause-segment
+returns-clause-segment c = receives _ _ _ _ _ _ (search rules) (search rules) (search rules)
