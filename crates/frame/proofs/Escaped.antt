@@ -84,7 +84,7 @@ record OneBack (b : ℕ) (front rest : List ℕ) : Type 0 where
   back : meant_by Outside (front ++ rest) ≡ b ∷ meant_by Outside rest
 
 one_back : (b : ℕ) (rest : List ℕ) → OneBack b (escaped_byte b) rest
-unfolding after_all meant_by has_flag
+unfolding after_all meant_by
 one_back b rest =
     ⊎_elim
     (λ e. subst (λ (x : ℕ). OneBack x (escaped_byte x) rest) (sym (eqb-true b flag e)) (record { flagless = refl; outside = refl; back = refl }))
@@ -103,17 +103,16 @@ one_back b rest =
     (cases_Bool (eqb b flag))
 
 escaped_outside : (p : List ℕ) → after_all Outside (escaped p) ≡ Outside
-unfolding after_all escaped
+unfolding after_all
 escaped_outside [] = refl
 escaped_outside (b ∷ p) = (one_back b (escaped p)).outside ∙ escaped_outside p
 
 escaped_flagless : (p : List ℕ) → has_flag (escaped p) ≡ false
-unfolding has_flag escaped
 escaped_flagless [] = refl
 escaped_flagless (b ∷ p) = (one_back b (escaped p)).flagless ∙ escaped_flagless p
 
 escaped_back : (p : List ℕ) → unescaped (escaped p) ≡ p
-unfolding meant_by escaped
+unfolding meant_by
 escaped_back [] = refl
 escaped_back (b ∷ p) = (one_back b (escaped p)).back ∙ ap (λ (l : List ℕ). b ∷ l) (escaped_back p)
 
@@ -128,14 +127,13 @@ reads_back p = record {
 
 -- a byte that is neither flag nor escape is its own escaped form
 plain_form : (b : ℕ) (p : List ℕ) → eqb b flag ≡ false → eqb b escape ≡ false → b ∷ escaped p ≡ escaped (b ∷ p)
-unfolding escaped
 plain_form b p f e = sym (λ i. cond (f i) (escape ∷ escaped_flag ∷ []) (cond (e i) (escape ∷ escaped_escape ∷ []) (b ∷ [])) ++ escaped p)
 
 never_outside : (bs : List ℕ) → after_all Broken bs ≡ Outside → ⊥
 never_outside bs h = let k = stays_broken bs in let z : ◌≡◌ {A = ℕ} 0 1 = cc (k, h) in omega arith
 
 mutual
-  unfolding after_all meant_by has_flag escaped
+  unfolding after_all meant_by
 
   form_outside : (bs : List ℕ) → has_flag bs ≡ false → after_all Outside bs ≡ Outside → bs ≡ escaped (meant_by Outside bs)
   form_outside [] f o = refl

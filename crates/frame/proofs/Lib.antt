@@ -1,5 +1,5 @@
 pub mod Escaped
 pub mod Segments
-pub mod Buffers
 pub mod Frames
 pub mod Cuts
+pub mod Cursors

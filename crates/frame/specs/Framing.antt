@@ -1,5 +1,6 @@
 -- Framing: a flag, C0, stands before and behind the packet. Inside, C0 is sent as DB DC and DB as DB DD; every other byte is itself.
 use Rattle.std.specs.Prelude.{ℕ, Bool, false, cond, not, ◌&&◌, ◌||◌, List, [], ◌∷◌, ◌++◌, ◌==◌}
+use Rattle.std.specs.List.{flat_map, list_any}
 
 abbrev pub flag : ℕ
 flag = 0xC0
@@ -20,11 +21,10 @@ abbrev pub escaped_byte : ℕ → List ℕ
 escaped_byte b =
     cond (b == flag) (escape ∷ escaped_flag ∷ []) (cond (b == escape) (escape ∷ escaped_escape ∷ []) (b ∷ []))
 
-unfoldable pub escaped : List ℕ → List ℕ
-escaped [] = []
-escaped (b ∷ bs) = escaped_byte b ++ escaped bs
+abbrev pub escaped : List ℕ → List ℕ
+escaped bs = flat_map escaped_byte bs
 
-unfoldable pub framed : List ℕ → List ℕ
+abbrev pub framed : List ℕ → List ℕ
 framed packet = flag ∷ (escaped packet ++ (flag ∷ []))
 
 -- ---- what can be wrong with bytes that stand between two flags
@@ -40,6 +40,5 @@ bad_escape [] = false
 bad_escape (b ∷ bs) = (b == escape && not (resolves bs)) || bad_escape bs
 
 -- a flag is among the bytes, so they are no segment
-unfoldable pub has_flag : List ℕ → Bool
-has_flag [] = false
-has_flag (b ∷ bs) = b == flag || has_flag bs
+abbrev pub has_flag : List ℕ → Bool
+has_flag bs = list_any (λ b. b == flag) bs

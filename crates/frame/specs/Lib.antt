@@ -3,6 +3,7 @@ pub mod Framing
 pub mod Faults
 pub mod Escapes
 pub mod Buffer
+pub mod Cursor
 pub mod Writing
 pub mod Segment
 pub mod Arrivals

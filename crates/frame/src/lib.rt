@@ -2,6 +2,7 @@
 //! The bytes between one flag and the next are a segment.
 #![tactic(auto)]
 
+pub mod cursor;
 pub mod escaping;
 pub mod faults;
 pub mod reading;

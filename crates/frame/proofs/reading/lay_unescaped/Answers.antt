@@ -1,31 +1,23 @@
-use Rattle.std.proofs.Common.{◌≡◌, ℕ, ◌+◌, ◌<◌, List, ◌++◌, length, get_or, take, Option, sym, refl, ap, ◌∙◌, arith, length-append}
-use Rattle.std.specs.Option.{option_to_list}
+use Rattle.std.proofs.Common.{◌≡◌, ℕ, ◌+◌, ◌<◌, ◌≤◌, List, [], ◌∷◌, ◌++◌, length, get_or, take, Option, Some, None, sym, refl, ap, ◌∙◌, subst, arith, rules, length-append}
+use Rattle.std.specs.Option.{option_to_list, MatchOption}
 use Rattle.std.proofs.lemmas.List.{take_all}
+use Rattle.frame.specs.Buffer.{laid}
+use Rattle.frame.specs.Cursor.{rest}
 use Rattle.frame.specs.Escapes.{after, meant, after_all, meant_by, unescaped}
 use Rattle.frame.specs.declared.escaping.Escaping.{Escaping}
 use Rattle.frame.specs.declared.escaping.Escaping.TheVariants.{Outside}
-use Rattle.frame.proofs.Buffers.{lays_none, lays_then, lays_same, lays_front}
+use Rattle.frame.proofs.Cursors.{Wrote, wrote_none, wrote_then, wrote_room, wrote_left, on_ok}
 use Rattle.frame.proofs.Escaped.{after_more, meant_more, meant_front}
 use Rattle.frame.proofs.reading.lay_unescaped.Goals as goal
 
--- one more byte of the segment: `o` is what it stands for
-module _ (s : List ℕ) (i : ℕ) (h : i < length s) (e : Escaping) (o : Option ℕ) (h_e : e ≡ after_all Outside (take i s)) (h_o : o ≡ meant e (get_or s i 0)) where
-  one_on : unescaped (take i s) ++ option_to_list o ≡ unescaped (take (i + 1) s)
-  one_on =
-      ap (λ (x : Option ℕ). unescaped (take i s) ++ option_to_list x) (h_o ∙ ap (λ (x : Escaping). meant x (get_or s i 0)) h_e) ∙ sym (meant_more s i h)
-
-  one_longer : length (unescaped (take i s)) + length (option_to_list o) ≡ length (unescaped (take (i + 1) s))
-  one_longer = sym (length-append (unescaped (take i s)) (option_to_list o)) ∙ ap length one_on
+-- an option's slice
+as_list : (o : Option ℕ) (l : List ℕ) → MatchOption o (l ≡ []) (λ x. l ≡ x ∷ []) → l ≡ option_to_list o
+as_list None l h = h
+as_list (Some x) l h = h
 
 pub loop-byte-init : goal.loop-byte-init
 unfolding after_all meant_by
-loop-byte-init c = (refl, refl, lays_none c.args.out.now 0)
-
-pub put_meant-at-requires : goal.put_meant-at-requires
-put_meant-at-requires c =
-    let i = c.loop-byte.byte-index in
-    let s = c.args.segment.now in
-    omega (arith, one_longer s i (omega arith) c.loop-byte.escaping c.meant.result c.loop-byte.invariant.0 c.meant.ensures, meant_front s (i + 1), c.loop-byte.invariant.1)
+loop-byte-init c = (refl, refl, wrote_none _ _ c.new-cursor.ensures.written c.new-cursor.ensures.rest)
 
 pub loop-byte-preserved : goal.loop-byte-preserved
 loop-byte-preserved c =
@@ -33,18 +25,21 @@ loop-byte-preserved c =
     let s = c.args.segment.now in
     let h : i < length s = omega arith in
     let inv = c.loop-byte.invariant in
-    let put = c.put_meant-at.ensures in
-    let more = one_on s i h c.loop-byte.escaping c.meant.result inv.0 c.meant.ensures in (
+    let was = c.args.out.now in
+    let put = c.put.ensures in
+    let one : unescaped (take i s) ++ c.as_slice.result.now ≡ unescaped (take (i + 1) s) =
+    ap (λ (l : List ℕ). unescaped (take i s) ++ l) (as_list c.meant.result _ c.as_slice.ensures ∙ ap option_to_list (c.meant.ensures ∙ ap (λ (x : Escaping). meant x (get_or s i 0)) inv.0))
+    ∙ sym (meant_more s i h) in
+    let fits : length c.as_slice.result.now ≤ length (rest c.loop-byte.cursor) =
+    omega (arith, ap length one, length-append (unescaped (take i s)) c.as_slice.result.now, meant_front s (i + 1), wrote_room c.loop-byte.cursor _ was inv.2) in (
       c.after-escaping.ensures ∙ ap (λ (x : Escaping). after x (get_or s i 0)) inv.0 ∙ sym (after_more s i h),
-      omega (arith, one_longer s i h c.loop-byte.escaping c.meant.result inv.0 c.meant.ensures, put.next, inv.1),
-      lays_same c.args.out.now c.put_meant-at.new.out 0 _ _ more
-          (lays_then c.args.out.now c.loop-byte.out c.put_meant-at.new.out 0 c.loop-byte.at (unescaped (take i s)) (option_to_list c.meant.result) inv.2 (omega (arith, inv.1)) put.lays),
+      put.same_buffer ∙ inv.1,
+      subst (λ (l : List ℕ). Wrote c.put.new.self l was) one (wrote_then c.loop-byte.cursor c.put.new.self _ _ was inv.2 (on_ok c.put.result (put.fits.1 fits) put.puts)),
     )
 
 pub returns : goal.returns
 returns c =
     let s = c.args.segment.now in
-    let i = c.loop-byte.byte-index in
-    let all : unescaped (take i s) ≡ unescaped s = ap unescaped (take_all i s (omega arith)) in
-    lays_front c.args.out.now c.loop-byte.out (unescaped s)
-    (lays_same c.args.out.now c.loop-byte.out 0 _ _ all c.loop-byte.invariant.2)
+    let all : unescaped (take c.loop-byte.byte-index s) ≡ unescaped s = ap unescaped (take_all c.loop-byte.byte-index s (omega arith)) in
+    let left = wrote_left c.loop-byte.cursor (unescaped s) c.args.out.now (subst (λ (l : List ℕ). Wrote c.loop-byte.cursor l c.args.out.now) all c.loop-byte.invariant.2) in
+    search (rules, left)

@@ -1,34 +1,23 @@
-use Rattle.std.proofs.Common.{◌≡◌, ◌+◌, ◌<◌, length, get_or, take, sym, ap, arith, length-append}
-use Rattle.std.proofs.lemmas.List.{take_all}
-use Rattle.std.proofs.lemmas.Bool.{lt-ltb, le-ltb}
-use Rattle.frame.specs.Framing.{escaped, escaped_byte, framed}
-use Rattle.frame.proofs.Frames.{escaped_more, escaped_front, framed_length}
+use Rattle.std.proofs.Common.{◌≡◌, ℕ, ◌+◌, ◌≤◌, ◌-◌, ◌^◌, length, sym, ◌∙◌, arith, rules}
+use Rattle.std.proofs.lemmas.Iterator.{YieldsList-from_slice, YieldsList-from_map}
+use Rattle.std.proofs.lemmas.Iterator.Adapters.{fits_from_length, at_most_from_yields_List}
+use Rattle.std.proofs.lemmas.Iterator.Consumers.{sum_by_from_yields_List}
+use Rattle.std.proofs.lemmas.List.Concat.{length-flat_map}
+use Rattle.std.proofs.lemmas.Bool.Decides.{nat_tests}
+use Rattle.frame.specs.Framing.{escaped_byte, escaped, framed}
+use Rattle.frame.proofs.Frames.{framed_length}
 use Rattle.frame.proofs.writing.outgrows.Goals as goal
 
-pub returns-then-room-lt2 : goal.returns-then-room-lt2
-returns-then-room-lt2 c = let p = c.args.packet.now in sym (lt-ltb c.args.room (length (framed p)) (omega (arith, framed_length p)))
+-- at most 2^63 - 1 bytes, each of which takes two at most
+pub sum-inside-requires-clause-fits : goal.sum-inside-requires-clause-fits
+sum-inside-requires-clause-fits c =
+    let few : length c.args.packet.now ≤ 2 ^ 63 - 1 = omega arith in
+    fits_from_length _ _ (2 ^ 63 - 1) (2 ^ 64) (at_most_from_yields_List (YieldsList-from_slice c.args.packet.now cc) few) c.map.ensures.closure (omega arith) (λ x r q k. search rules)
 
-pub loop-byte-init : goal.loop-byte-init
-unfolding escaped
-loop-byte-init c = omega arith
-
-pub loop-byte-preserved : goal.loop-byte-preserved
-loop-byte-preserved c =
-    let i = c.loop-byte.byte-index in
+pub returns-else-room-lt2 : goal.returns-else-room-lt2
+returns-else-room-lt2 c =
     let p = c.args.packet.now in
-    omega (arith, ap length (escaped_more p i (omega arith)), length-append (escaped (take i p)) (escaped_byte (get_or p i 0)), c.loop-byte.invariant, c.escaped_len-taken.ensures)
-
-pub returns-then-left-taken : goal.returns-then-left-taken
-returns-then-left-taken c =
-    let i = c.loop-byte.byte-index in
-    let p = c.args.packet.now in
-    let long : c.args.room < length (framed p) =
-    omega (arith, ap length (escaped_more p i (omega arith)), length-append (escaped (take i p)) (escaped_byte (get_or p i 0)), escaped_front p (i + 1), framed_length p, c.loop-byte.invariant, c.escaped_len-taken.ensures) in
-    sym (lt-ltb c.args.room (length (framed p)) long)
-
-pub returns : goal.returns
-returns c =
-    let p = c.args.packet.now in
-    let i = c.loop-byte.byte-index in
-    let all : length (escaped (take i p)) ≡ length (escaped p) = ap (λ (l : _). length (escaped l)) (take_all i p (omega arith)) in
-    sym (le-ltb c.args.room (length (framed p)) (omega (arith, framed_length p, c.loop-byte.invariant)))
+    let taken = sum_by_from_yields_List (λ b. length (escaped_byte b)) p c.map.result c.sum-inside.result c.sum-inside.ensures.ran
+        (YieldsList-from_map _ _ (YieldsList-from_slice p cc) c.map.ensures.closure (λ x r q k. search rules)) in
+    let inside : c.sum-inside.result + 2 ≡ length (framed p) = omega (arith, taken, length-flat_map escaped_byte p, framed_length p) in
+    grind (arith, nat_tests, inside)

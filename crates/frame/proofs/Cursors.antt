@@ -1,0 +1,50 @@
+-- What a cursor wrote and what it leaves, piece after piece.
+use Rattle.std.proofs.Common.{◌≡◌, ℕ, ◌+◌, ◌-◌, ◌≤◌, List, [], ◌++◌, true, Result, Ok, Err, length, take, drop, sym, ap, ◌∙◌, append_assoc, arith, length-append, length-take, length-drop}
+use borrow.Rule.Slice.PartMut.{put_mid}
+use Rattle.std.proofs.lemmas.List.{take_at, drop_at, drop-drop, take-append-drop}
+use Rattle.std.specs.Result.{OnOk, is_ok}
+use Rattle.refusals.specs.declared.Refusal.{Refusal}
+use Rattle.frame.specs.Buffer.{laid}
+use Rattle.frame.specs.Cursor.{written, rest, Puts}
+use Rattle.frame.specs.declared.cursor.Cursor.{Cursor}
+
+-- bytes that are copied into a list right behind its front
+module _ (at k : ℕ) (was src bytes : List ℕ) (same : src ≡ bytes) (room : at ≤ length was) (all : k ≡ length bytes) where
+  regrouped : put_mid at k was src ≡ (take at was ++ bytes) ++ drop k (drop at was)
+  regrouped = (λ i. take at was ++ (same i ++ drop k (drop at was))) ∙ sym (append_assoc (take at was) bytes (drop k (drop at was)))
+
+  long : length (take at was ++ bytes) ≡ at + length bytes
+  long = omega (arith, length-append (take at was) bytes, length-take at was)
+
+  pub take-put_mid : take (at + length bytes) (put_mid at k was src) ≡ take at was ++ bytes
+  take-put_mid = ap (take (at + length bytes)) regrouped ∙ take_at (take at was ++ bytes) (drop k (drop at was)) (at + length bytes) long
+
+  pub drop-put_mid : drop (at + length bytes) (put_mid at k was src) ≡ drop (length bytes) (drop at was)
+  drop-put_mid = ap (drop (at + length bytes)) regrouped ∙ drop_at (take at was ++ bytes) (drop k (drop at was)) (at + length bytes) long ∙ ap (λ (n : ℕ). drop n (drop at was)) all
+
+-- the cursor wrote `front` over a buffer that held `was`
+pub record Wrote (c : Cursor) (front was : List ℕ) : Type 0 where
+  pub front_is : written c ≡ front
+  pub rest_is : rest c ≡ drop (length front) was
+
+pub wrote_then : (c c' : Cursor) (front bytes was : List ℕ) → Wrote c front was → Puts c bytes c' → Wrote c' (front ++ bytes) was
+wrote_then c c' front bytes was w p = record {
+  front_is = p.more ∙ ap (λ (l : List ℕ). l ++ bytes) w.front_is;
+  rest_is = p.left ∙ ap (drop (length bytes)) w.rest_is ∙ drop-drop (length bytes) (length front) was ∙ ap (λ (n : ℕ). drop n was) (sym (length-append front bytes));
+}
+
+pub wrote_room : (c : Cursor) (front was : List ℕ) → Wrote c front was → length (rest c) ≡ length was - length front
+wrote_room c front was w = ap length w.rest_is ∙ length-drop (length front) was
+
+-- what it leaves in the buffer
+pub wrote_left : (c : Cursor) (front was : List ℕ) → Wrote c front was → c.out.now ≡ laid front was
+wrote_left c front was w = sym (take-append-drop c.at c.out.now) ∙ (λ i. w.front_is i ++ w.rest_is i)
+
+-- over a buffer of its own
+pub wrote_none : (c : Cursor) (was : List ℕ) → written c ≡ [] → rest c ≡ was → Wrote c [] was
+wrote_none c was f r = record { front_is = f; rest_is = r }
+
+-- where bytes have room they are written
+pub on_ok : {P : Type 0} (r : Result (Unit {0}) Refusal) → is_ok r ≡ true → OnOk r P → P
+on_ok (Ok x) h p = p
+on_ok (Err why) h p = absurd (cc h)
