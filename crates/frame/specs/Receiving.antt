@@ -15,15 +15,11 @@ use Rattle.frame.specs.declared.receiver.Digest.{Digest}
 abbrev pub blank : Digest
 blank = record { count = Some 0; escaping = Outside; faulted = false }
 
--- a count with one more byte: the longest packet has no room for another
-abbrev pub one_more : Option ℕ → Option ℕ
-one_more None = None
-one_more (Some n) = cond (nat_lt n max_packet) (Some (n + 1)) None
-
--- a count with an unescaped byte, if there is one
+-- a count with an unescaped byte, if there is one: the longest packet has no room for another
 abbrev pub counted : Option ℕ → Option ℕ → Option ℕ
 counted None count = count
-counted (Some c) count = one_more count
+counted (Some c) None = None
+counted (Some c) (Some n) = cond (nat_lt n max_packet) (Some (n + 1)) None
 
 -- with one more byte of the line that is no flag
 abbrev pub digested : Digest → ℕ → Digest

@@ -1,6 +1,6 @@
 //! Reading escaped bytes one after another.
 ghost use Rattle.std.specs.Prelude.{◌≡◌};
-ghost use Rattle.frame.specs.Escapes.{after as state_after, meant as byte_meant};
+ghost use Rattle.frame.specs.Escapes.{after, meant};
 
 use crate::{ESCAPE, ESCAPED_ESCAPE, ESCAPED_FLAG, FLAG};
 
@@ -16,29 +16,17 @@ pub enum Escaping {
 }
 
 impl Escaping {
-    /// Where the reading stands after one more byte.
-    pub fn after(self, byte: u8) -> Escaping
-        ensures { result ≡ state_after self byte }
+    /// Takes one more byte: where the reading stands then, and the byte that this one stands for, if it stands for one.
+    pub fn step(self, byte: u8) -> (Escaping, Option<u8>)
+        ensures after { result.0 ≡ after self byte }
+        ensures meant { result.1 ≡ meant self byte }
     {
-        match self {
-            Escaping::Outside if byte == ESCAPE => Escaping::Pending,
-            Escaping::Outside => Escaping::Outside,
-            Escaping::Pending if byte == ESCAPED_FLAG || byte == ESCAPED_ESCAPE =>
-                Escaping::Outside,
-            Escaping::Pending | Escaping::Broken => Escaping::Broken,
-        }
-    }
-
-    /// The byte that one more byte stands for, if it stands for one.
-    pub fn meant(self, byte: u8) -> Option<u8>
-        ensures { result ≡ byte_meant self byte }
-    {
-        match self {
-            Escaping::Outside if byte == ESCAPE => None,
-            Escaping::Outside => Some(byte),
-            Escaping::Pending if byte == ESCAPED_FLAG => Some(FLAG),
-            Escaping::Pending if byte == ESCAPED_ESCAPE => Some(ESCAPE),
-            Escaping::Pending | Escaping::Broken => None,
+        match (self, byte) {
+            (Escaping::Outside, ESCAPE) => (Escaping::Pending, None),
+            (Escaping::Outside, plain) => (Escaping::Outside, Some(plain)),
+            (Escaping::Pending, ESCAPED_FLAG) => (Escaping::Outside, Some(FLAG)),
+            (Escaping::Pending, ESCAPED_ESCAPE) => (Escaping::Outside, Some(ESCAPE)),
+            (Escaping::Pending | Escaping::Broken, _) => (Escaping::Broken, None),
         }
     }
 }

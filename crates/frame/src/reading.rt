@@ -29,10 +29,11 @@ fn measure(segment: &[u8]) -> Result<usize, NotUnescaped>
     let mut escaping = Escaping::Outside;
     let mut count = 0;
     for byte in segment {
-        if escaping.meant(*byte).is_some() {
+        let (next, meant) = escaping.step(*byte);
+        escaping = next;
+        if meant.is_some() {
             count += 1;
         }
-        escaping = escaping.after(*byte);
     }
     match escaping {
         Escaping::Outside => Ok(count),
@@ -48,9 +49,10 @@ fn lay_unescaped(segment: &[u8], out: &mut [u8])
     let mut escaping = Escaping::Outside;
     let mut cursor = Cursor::new(out);
     for byte in segment {
+        let (next, meant) = escaping.step(*byte);
+        escaping = next;
         // the buffer has room, as is required
-        let _ = cursor.put(escaping.meant(*byte).as_slice());
-        escaping = escaping.after(*byte);
+        let _ = cursor.put(meant.as_slice());
     }
 }
 

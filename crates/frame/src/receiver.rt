@@ -1,7 +1,7 @@
 //! The receiver: it takes what comes over the line byte by byte, and gathers the bytes that a segment stands for in memory lent to it.
 ghost use Rattle.std.specs.Prelude.{◌≡◌, ℕ, List, take};
 ghost use Rattle.frame.specs.Segment.{Segment, no_bytes, with_fault};
-ghost use Rattle.frame.specs.Receiving.{blank, one_more, kept, digested, fault_digested, stored, byte_tells, byte_leaves, byte_places, Holds, Receives};
+ghost use Rattle.frame.specs.Receiving.{blank, counted, kept, fault_digested, stored, byte_tells, byte_leaves, byte_places, Holds, Receives};
 
 use crate::escaping::Escaping;
 use crate::{FLAG, MAX_PACKET};
@@ -45,28 +45,14 @@ impl Digest {
         }
     }
 
-    /// The count with one more byte.
-    fn one_more(self) -> Option<usize>
-        ensures { result ≡ one_more self.count }
+    /// The count with an unescaped byte, if there is one. The longest packet has no room for another.
+    fn counted(&self, byte: Option<u8>) -> Option<usize>
+        ensures { result ≡ counted byte self.now.count }
     {
-        match self.count {
-            Some(count) if count < MAX_PACKET => Some(count + 1),
-            Some(_) | None => None,
-        }
-    }
-
-    /// With one more byte of the line.
-    fn with(self, byte: u8) -> Digest
-        ensures { result ≡ digested self byte }
-    {
-        let count = match self.escaping.meant(byte) {
-            Some(_) => self.one_more(),
-            None => self.count,
-        };
-        Digest {
-            count,
-            escaping: self.escaping.after(byte),
-            ..self
+        match (byte, self.count) {
+            (Some(_), Some(count)) if count < MAX_PACKET => Some(count + 1),
+            (Some(_), _) => None,
+            (None, count) => count,
         }
     }
 }
@@ -126,8 +112,13 @@ impl Receiver {
             self.digest = Digest::empty();
             return Ok(Some(digest));
         }
-        store(memory, digest.kept(), digest.escaping.meant(byte));
-        self.digest = digest.with(byte);
+        let (escaping, meant) = digest.escaping.step(byte);
+        store(memory, digest.kept(), meant);
+        self.digest = Digest {
+            count: digest.counted(meant),
+            escaping,
+            ..digest
+        };
         Ok(None)
     }
 

@@ -1,11 +1,9 @@
 use Rattle.std.proofs.Common.{◌≡◌, ℕ, ◌+◌, ◌<◌, ◌≤◌, List, [], ◌∷◌, ◌++◌, length, get_or, take, Option, Some, None, sym, refl, ap, ◌∙◌, subst, arith, rules, length-append}
 use Rattle.std.specs.Option.{option_to_list, MatchOption}
 use Rattle.std.proofs.lemmas.List.{take_all}
-use Rattle.frame.specs.Buffer.{laid}
 use Rattle.frame.specs.Cursor.{rest}
 use Rattle.frame.specs.Escapes.{after, meant, after_all, meant_by, unescaped}
 use Rattle.frame.specs.declared.escaping.Escaping.{Escaping}
-use Rattle.frame.specs.declared.escaping.Escaping.TheVariants.{Outside}
 use Rattle.frame.proofs.Cursors.{Wrote, wrote_none, wrote_then, wrote_room, wrote_left, on_ok}
 use Rattle.frame.proofs.Escaped.{after_more, meant_more, meant_front}
 use Rattle.frame.proofs.reading.lay_unescaped.Goals as goal
@@ -28,11 +26,11 @@ loop-byte-preserved c =
     let was = c.args.out.now in
     let put = c.put.ensures in
     let one : unescaped (take i s) ++ c.as_slice.result.now ≡ unescaped (take (i + 1) s) =
-    ap (λ (l : List ℕ). unescaped (take i s) ++ l) (as_list c.meant.result _ c.as_slice.ensures ∙ ap option_to_list (c.meant.ensures ∙ ap (λ (x : Escaping). meant x (get_or s i 0)) inv.0))
+    ap (λ (l : List ℕ). unescaped (take i s) ++ l) (as_list c.step-next.result.1 _ c.as_slice.ensures ∙ ap option_to_list (c.step-next.ensures.meant ∙ ap (λ (x : Escaping). meant x (get_or s i 0)) inv.0))
     ∙ sym (meant_more s i h) in
     let fits : length c.as_slice.result.now ≤ length (rest c.loop-byte.cursor) =
     omega (arith, ap length one, length-append (unescaped (take i s)) c.as_slice.result.now, meant_front s (i + 1), wrote_room c.loop-byte.cursor _ was inv.2) in (
-      c.after-escaping.ensures ∙ ap (λ (x : Escaping). after x (get_or s i 0)) inv.0 ∙ sym (after_more s i h),
+      c.step-next.ensures.after ∙ ap (λ (x : Escaping). after x (get_or s i 0)) inv.0 ∙ sym (after_more s i h),
       put.same_buffer ∙ inv.1,
       subst (λ (l : List ℕ). Wrote c.put.new.self l was) one (wrote_then c.loop-byte.cursor c.put.new.self _ _ was inv.2 (on_ok c.put.result (put.fits.1 fits) put.puts)),
     )

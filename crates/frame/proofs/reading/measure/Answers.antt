@@ -1,4 +1,4 @@
-use Rattle.std.proofs.Common.{◌≡◌, ℕ, ◌+◌, ◌<◌, ◌≤◌, Bool, true, false, cond, List, length, get_or, take, Option, Some, None, Ok, Err, sym, refl, ap, ◌∙◌, ⊎_elim, arith, rules, length-append}
+use Rattle.std.proofs.Common.{◌≡◌, ℕ, ◌+◌, ◌<◌, ◌≤◌, Bool, true, false, cond, List, length, get_or, take, Option, Some, None, Ok, Err, sym, refl, ap, ◌∙◌, ⊎_elim, arith, length-append}
 use Rattle.std.specs.Option.{option_to_list, is_some}
 use Rattle.std.proofs.lemmas.List.{take_all}
 use Rattle.frame.specs.Framing.{has_flag, bad_escape}
@@ -6,7 +6,7 @@ use Rattle.frame.specs.Escapes.{after, meant, in_escape, after_all, meant_by, un
 use Rattle.frame.specs.Writing.{measured}
 use Rattle.frame.specs.declared.escaping.Escaping.{Escaping}
 use Rattle.frame.specs.declared.escaping.Escaping.TheVariants.{Outside}
-use Rattle.frame.specs.declared.reading.NotUnescaped.TheVariants.{HasFlag, BadEscape}
+use Rattle.frame.specs.declared.reading.NotUnescaped.TheVariants.{BadEscape}
 use Rattle.frame.proofs.Escaped.{after_more, meant_more, bad_is}
 use Rattle.frame.proofs.reading.measure.Goals.{then-is_some, else-is_some}
 use Rattle.frame.proofs.reading.measure.Goals as goal
@@ -31,13 +31,13 @@ loop-byte-preserved c =
     let b = get_or s i 0 in
     let h : i < length s = omega arith in
     let inv = c.loop-byte.invariant in
-    let o : c.meant.result ≡ meant (after_all Outside (take i s)) b = c.meant.ensures ∙ ap (λ (x : Escaping). meant x b) inv.0 in
+    let o : c.step-next.result.1 ≡ meant (after_all Outside (take i s)) b = c.step-next.ensures.meant ∙ ap (λ (x : Escaping). meant x b) inv.0 in
     let longer = length-append (unescaped (take i s)) (option_to_list (meant (after_all Outside (take i s)) b)) in
-    let one : c.if-is_some.count ≡ c.loop-byte.count + length (option_to_list c.meant.result) =
-    elim c.if-is_some.branch [ then-is_some w ↦ omega (arith, len_some c.meant.result true w.if-is_some.ensures, w.count-is) | else-is_some w ↦ omega (arith, len_some c.meant.result false w.if-is_some.ensures, w.count-is) ] in (
-      c.after-escaping.ensures ∙ ap (λ (x : Escaping). after x b) inv.0 ∙ sym (after_more s i h),
+    let one : c.if-is_some.count ≡ c.loop-byte.count + length (option_to_list c.step-next.result.1) =
+    elim c.if-is_some.branch [ then-is_some w ↦ omega (arith, len_some c.step-next.result.1 true w.if-is_some.ensures, w.count-is) | else-is_some w ↦ omega (arith, len_some c.step-next.result.1 false w.if-is_some.ensures, w.count-is) ] in (
+      c.step-next.ensures.after ∙ ap (λ (x : Escaping). after x b) inv.0 ∙ sym (after_more s i h),
       omega (arith, ap length (meant_more s i h), longer, ap (λ (x : _). length (option_to_list x)) o, one, inv.1),
-      omega (arith, one, few c.meant.result, inv.2),
+      omega (arith, one, few c.step-next.result.1, inv.2),
     )
 
 -- at the end the whole segment was read

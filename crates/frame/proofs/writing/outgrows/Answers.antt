@@ -1,10 +1,10 @@
-use Rattle.std.proofs.Common.{◌≡◌, ℕ, ◌+◌, ◌≤◌, ◌-◌, ◌^◌, length, sym, ◌∙◌, arith, rules}
+use Rattle.std.proofs.Common.{◌≡◌, ◌+◌, ◌≤◌, ◌-◌, ◌^◌, length, arith, rules}
 use Rattle.std.proofs.lemmas.Iterator.{YieldsList-from_slice, YieldsList-from_map}
 use Rattle.std.proofs.lemmas.Iterator.Adapters.{fits_from_length, at_most_from_yields_List}
 use Rattle.std.proofs.lemmas.Iterator.Consumers.{sum_by_from_yields_List}
 use Rattle.std.proofs.lemmas.List.Concat.{length-flat_map}
 use Rattle.std.proofs.lemmas.Bool.Decides.{nat_tests}
-use Rattle.frame.specs.Framing.{escaped_byte, escaped, framed}
+use Rattle.frame.specs.Framing.{escaped_byte, framed}
 use Rattle.frame.proofs.Frames.{framed_length}
 use Rattle.frame.proofs.writing.outgrows.Goals as goal
 
@@ -18,6 +18,6 @@ pub returns-else-room-lt2 : goal.returns-else-room-lt2
 returns-else-room-lt2 c =
     let p = c.args.packet.now in
     let taken = sum_by_from_yields_List (λ b. length (escaped_byte b)) p c.map.result c.sum-inside.result c.sum-inside.ensures.ran
-        (YieldsList-from_map _ _ (YieldsList-from_slice p cc) c.map.ensures.closure (λ x r q k. search rules)) in
+    (YieldsList-from_map _ _ (YieldsList-from_slice p cc) c.map.ensures.closure (λ x r q k. search rules)) in
     let inside : c.sum-inside.result + 2 ≡ length (framed p) = omega (arith, taken, length-flat_map escaped_byte p, framed_length p) in
     grind (arith, nat_tests, inside)

@@ -1,4 +1,4 @@
-use Rattle.std.proofs.Common.{◌≡◌, [], ◌∷◌, ◌++◌, List, ℕ, length, take, get_or, sym, refl, ap, ◌∙◌, nat_lt, false, Ok, ◌≤◌, arith, rules}
+use Rattle.std.proofs.Common.{◌≡◌, [], ◌∷◌, List, ℕ, length, take, get_or, sym, refl, ap, ◌∙◌, nat_lt, false, Ok, ◌≤◌, arith, rules}
 use Rattle.std.proofs.lemmas.List.{take_all}
 use Rattle.std.proofs.lemmas.Bool.Decides.{nat_tests}
 use Rattle.frame.specs.Framing.{flag, escaped, escaped_byte, framed}
@@ -23,12 +23,13 @@ returns-in_err-put_escaped c =
     absurd (cc (c.in_err-put_escaped.ensures.fits.1 fits))
 
 pub loop-byte-preserved : goal.loop-byte-preserved
-loop-byte-preserved c = 
+loop-byte-preserved c =
     let i = c.loop-byte.byte-index in
-    let p = c.args.packet.now in
-    (c.in_ok-put_escaped.ensures.same_buffer ∙ c.loop-byte.invariant.0,
-     rw (escaped_more p i (omega arith))
-     (wrote_then c.loop-byte.cursor c.put_escaped.new.cursor (flag ∷ escaped (take i p)) (escaped_byte (get_or p i 0)) c.args.out.now c.loop-byte.invariant.1 c.in_ok-put_escaped.ensures.puts))
+    let p = c.args.packet.now in (
+      c.in_ok-put_escaped.ensures.same_buffer ∙ c.loop-byte.invariant.0,
+      rw (escaped_more p i (omega arith))
+          (wrote_then c.loop-byte.cursor c.put_escaped.new.cursor (flag ∷ escaped (take i p)) (escaped_byte (get_or p i 0)) c.args.out.now c.loop-byte.invariant.1 c.in_ok-put_escaped.ensures.puts),
+    )
 
 -- behind the loop
 all_bytes : (p : List ℕ) (i : ℕ) (c : Cursor) (was : List ℕ) → length p ≤ i → Wrote c (flag ∷ escaped (take i p)) was → Wrote c (flag ∷ escaped p) was

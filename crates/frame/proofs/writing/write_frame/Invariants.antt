@@ -6,6 +6,6 @@ use Rattle.frame.proofs.writing.write_frame.Given as goal
 
 -- the first flag and the bytes so far are written
 abbrev pub invariant-loop-byte : goal.invariant-loop-byte
-invariant-loop-byte l = 
+invariant-loop-byte l =
     (buffer l.cursor ≡ buffer l.initial.cursor)
     × Wrote l.cursor (flag ∷ escaped (take l.byte-index l.packet)) l.fn.out

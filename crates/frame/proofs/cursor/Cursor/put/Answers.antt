@@ -1,4 +1,4 @@
-use Rattle.std.proofs.Common.{length, arith, rules}
+use Rattle.std.proofs.Common.{arith}
 use Rattle.frame.proofs.Cursors.{take-put_mid, drop-put_mid}
 use Rattle.frame.proofs.cursor.Cursor.put.Goals as goal
 
