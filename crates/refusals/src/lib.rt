@@ -4,47 +4,38 @@
 ghost use Rattle.std.specs.Prelude.{◌≡◌};
 ghost use Rattle.refusals.specs.Numbers.{refusal_number};
 
+use std::error::Error;
 use std::fmt;
 
-/// Why a call was refused. A refused call leaves everything as it stood.
+/// Why a call was refused, with the number of each refusal. A refused call leaves everything as it stood.
 #[derive(Clone, Copy, PartialEq, Eq, Debug)]
 pub enum Refusal {
     /// An own address is 0, the flag or the escape.
-    OwnAddress,
+    OwnAddress = 1,
     /// A buffer is too short.
-    ShortBuffer,
+    ShortBuffer = 2,
     /// A destination is 0, the flag or the escape.
-    Destination,
+    Destination = 3,
     /// A request has the packet type of a reply.
-    ReplyType,
+    ReplyType = 4,
     /// A packet is to carry more data than fits it.
-    TooMuchData,
+    TooMuchData = 5,
     /// A new reading names no reading.
-    NoSuchReading,
+    NoSuchReading = 6,
     /// A new reading is too wide for its variable.
-    ReadingTooWide,
+    ReadingTooWide = 7,
     /// A table with no free row gets a new key.
-    TableFull,
+    TableFull = 8,
     /// A bench line is malformed.
-    BadLine,
+    BadLine = 9,
 }
 
-impl Refusal {
-    /// The refusal's number.
-    pub fn number(self) -> u8
-        ensures { result ≡ refusal_number self }
-    {
-        match self {
-            Refusal::OwnAddress => 1,
-            Refusal::ShortBuffer => 2,
-            Refusal::Destination => 3,
-            Refusal::ReplyType => 4,
-            Refusal::TooMuchData => 5,
-            Refusal::NoSuchReading => 6,
-            Refusal::ReadingTooWide => 7,
-            Refusal::TableFull => 8,
-            Refusal::BadLine => 9,
-        }
+/// The refusal's number.
+impl From<Refusal> for u8 {
+    ghost from_gives = { λ why number. number ≡ refusal_number why };
+
+    fn from(why: Refusal) -> u8 {
+        why as u8
     }
 }
 
@@ -63,3 +54,5 @@ impl fmt::Display for Refusal {
         })
     }
 }
+
+impl Error for Refusal {}
