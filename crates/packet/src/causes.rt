@@ -2,47 +2,36 @@
 ghost use Rattle.std.specs.Prelude.{◌≡◌};
 ghost use Rattle.packet.specs.Causes.{drop_number};
 
-/// Why a segment was dropped: the first of these that applies to it.
+/// Why a segment was dropped: the first of these that applies to it. They are numbered in the order in which they are tried.
 #[derive(Clone, Copy, PartialEq, Eq, Debug)]
 pub enum DropCause {
     /// A line fault was reported in it.
-    LineFault,
+    LineFault = 1,
     /// It holds no byte.
-    Empty,
+    Empty = 2,
     /// An escape in it is not followed by one of the two bytes that may follow it.
-    BadEscape,
+    BadEscape = 3,
     /// It stands for more bytes than the longest packet has.
-    TooLong,
+    TooLong = 4,
     /// It stands for fewer bytes than the shortest packet has.
-    TooShort,
+    TooShort = 5,
     /// Its CRC is wrong.
-    WrongCrc,
+    WrongCrc = 6,
     /// Its source is 0.
-    NullSource,
+    NullSource = 7,
     /// Its source is the flag or the escape.
-    ForbiddenSource,
+    ForbiddenSource = 8,
     /// It is not addressed to us, or not from the process that we spoke to.
-    NotForUs,
+    NotForUs = 9,
     /// It is a reply at a node, or a request in a transaction.
-    WrongDirection,
+    WrongDirection = 10,
 }
 
-impl DropCause {
-    /// The cause's number, in the order in which the causes are tried.
-    pub fn number(self) -> u8
-        ensures { result ≡ drop_number self }
-    {
-        match self {
-            DropCause::LineFault => 1,
-            DropCause::Empty => 2,
-            DropCause::BadEscape => 3,
-            DropCause::TooLong => 4,
-            DropCause::TooShort => 5,
-            DropCause::WrongCrc => 6,
-            DropCause::NullSource => 7,
-            DropCause::ForbiddenSource => 8,
-            DropCause::NotForUs => 9,
-            DropCause::WrongDirection => 10,
-        }
+/// The cause's number.
+impl From<DropCause> for u8 {
+    ghost from_gives = { λ cause number. number ≡ drop_number cause };
+
+    fn from(cause: DropCause) -> u8 {
+        cause as u8
     }
 }

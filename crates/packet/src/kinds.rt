@@ -21,11 +21,11 @@ pub enum PacketType {
     Other(u8),
 }
 
-impl PacketType {
-    /// The packet type with this number.
-    pub fn named(number: u8) -> PacketType
-        ensures { result ≡ type_named number }
-    {
+/// The packet type with this number.
+impl From<u8> for PacketType {
+    ghost from_gives = { λ number pktype. pktype ≡ type_named number };
+
+    fn from(number: u8) -> PacketType {
         match number {
             0 => PacketType::Ping,
             1 => PacketType::Init,
@@ -42,12 +42,14 @@ impl PacketType {
             other => PacketType::Other(other),
         }
     }
+}
 
-    /// The packet type's number.
-    pub fn number(self) -> u8
-        ensures { result ≡ type_number self }
-    {
-        match self {
+/// The packet type's number.
+impl From<PacketType> for u8 {
+    ghost from_gives = { λ pktype number. number ≡ type_number pktype };
+
+    fn from(pktype: PacketType) -> u8 {
+        match pktype {
             PacketType::Ping => 0,
             PacketType::Init => 1,
             PacketType::Ack => 2,
@@ -81,14 +83,13 @@ impl Kind {
     pub fn pktype(self) -> PacketType
         ensures { result ≡ type_named (type_bits self.0) }
     {
-        PacketType::named(self.0 % 64)
+        PacketType::from(self.0 % 64)
     }
 
     /// Whether it is the type of a reply: ACK or NAK.
     pub fn is_reply(self) -> bool
         ensures { result ≡ replies self.0 }
     {
-        let number = self.0 % 64;
-        number == 2 || number == 3
+        matches!(self.pktype(), PacketType::Ack | PacketType::Nak)
     }
 }
