@@ -1,4 +1,4 @@
--- Which addresses a process may have.
+-- Which addresses a process may have. An address is its number.
 use Rattle.std.specs.Prelude.{ℕ, Bool, cond, ◌||◌, Ok, Err, Result, ◌==◌}
 use Rattle.refusals.specs.declared.Refusal.{Refusal}
 use Rattle.refusals.specs.declared.Refusal.TheVariants.{OwnAddress}

@@ -5,6 +5,7 @@ use Rattle.frame.specs.Framing.{flag, escape, bad_escape}
 use Rattle.frame.specs.Escapes.{unescaped, in_escape}
 use Rattle.frame.specs.Segment.{Segment}
 use Rattle.frame.specs.declared.receiver.Digest.{Digest}
+use Rattle.packet.specs.Numbered.{number_of}
 use Rattle.packet.specs.Types.{is_reply}
 use Rattle.packet.specs.Packets.{Parts, parts_of}
 use Rattle.packet.specs.Causes.{first_cause}
@@ -16,8 +17,8 @@ use Rattle.packet.specs.declared.judging.Station.TheVariants.{Node, Caller, Moni
 
 -- a packet is for this station: a caller hears only the process that it spoke to
 abbrev pub is_for : Station → ℕ → ℕ → Bool
-is_for (Node own) dest srce = dest == own.number
-is_for (Caller own peer) dest srce = dest == own.number && srce == peer.number
+is_for (Node own) dest srce = dest == number_of own
+is_for (Caller own peer) dest srce = dest == number_of own && srce == number_of peer
 is_for Monitor dest srce = true
 
 -- its type byte says the right direction: a node takes no replies, and a caller nothing else

@@ -10,17 +10,18 @@ use crate::address::Address;
 use crate::causes::DropCause;
 use crate::kinds::Kind;
 use crate::reader::Packet;
+use crate::writer::Header;
 use frame::escaping::Escaping;
 use frame::receiver::Digest;
 use frame::{ESCAPE, FLAG};
 
 /// Who judges a segment, and so what is for it and in the right direction.
-#[derive(Clone, Copy)]
+#[derive(Clone, Copy, PartialEq, Eq, Debug)]
 pub enum Station {
     /// A node with its own address, which takes requests.
     Node(Address),
-    /// A process in a transaction: its own address, and that of the process it spoke to, from which it takes a reply.
-    Caller(Address, Address),
+    /// A process in a transaction, which takes a reply from the peer that it spoke to.
+    Caller { own: Address, peer: Address },
     /// One that takes every packet, whoever it is for.
     Monitor,
 }
@@ -31,8 +32,8 @@ impl Station {
         ensures { result ≡ is_for self dest srce }
     {
         match self {
-            Station::Node(own) => dest == own.number(),
-            Station::Caller(own, peer) => dest == own.number() && srce == peer.number(),
+            Station::Node(own) => dest == u8::from(own),
+            Station::Caller { own, peer } => dest == u8::from(own) && srce == u8::from(peer),
             Station::Monitor => true,
         }
     }
@@ -43,7 +44,7 @@ impl Station {
     {
         match self {
             Station::Node(_) => !kind.is_reply(),
-            Station::Caller(_, _) => kind.is_reply(),
+            Station::Caller { .. } => kind.is_reply(),
             Station::Monitor => true,
         }
     }
@@ -52,20 +53,14 @@ impl Station {
     fn sift<'a>(self, packet: Packet<'a>) -> Result<Packet<'a>, DropCause>
         ensures { shown_in result ≡ judge_packet self (shown packet.entry) }
     {
-        let header = packet.header();
-        if header.srce == 0 {
-            return Err(DropCause::NullSource);
+        let Header { dest, srce, kind } = packet.header();
+        match srce {
+            0 => Err(DropCause::NullSource),
+            FLAG | ESCAPE => Err(DropCause::ForbiddenSource),
+            _ if !self.hears(dest, srce) => Err(DropCause::NotForUs),
+            _ if !self.takes(kind) => Err(DropCause::WrongDirection),
+            _ => Ok(packet),
         }
-        if header.srce == FLAG || header.srce == ESCAPE {
-            return Err(DropCause::ForbiddenSource);
-        }
-        if !self.hears(header.dest, header.srce) {
-            return Err(DropCause::NotForUs);
-        }
-        if !self.takes(header.kind) {
-            return Err(DropCause::WrongDirection);
-        }
-        Ok(packet)
     }
 
     /// Judges the bytes that a segment stands for.
