@@ -1,18 +1,15 @@
 -- What is read as a packet.
 use Rattle.std.proofs.Common.{◌≡◌, ℕ, ◌≤◌, false, cond, not, ltb, List, [], ◌∷◌, length, Ok, Err, Result, sym, refl, ap, ◌∙◌, arith}
-use Rattle.std.proofs.lemmas.Bool.{eqb-true, ltb-false, le-ltb, not-false}
-use Rattle.crc.specs.Crc.{crc}
-use Rattle.crc.proofs.Damaged.{damage_changes_crc}
+use Rattle.std.proofs.lemmas.Bool.{ltb-false, le-ltb, not-false}
 use Rattle.frame.specs.Limits.{max_packet}
 use Rattle.packet.specs.Limits.{min_packet}
 use Rattle.packet.specs.Packets.{Parts, packed, parts_of, crc_right, Bytes}
 use Rattle.packet.specs.Causes.{first_cause}
-use Rattle.packet.specs.Reading.{none, reading_causes, read, shown, shown_in, ReadsBack, OneForm, DamageShows}
+use Rattle.packet.specs.Reading.{none, reading_causes, read}
 use Rattle.packet.specs.declared.causes.DropCause.{DropCause}
 use Rattle.packet.specs.declared.causes.DropCause.TheVariants.{Empty, TooLong, TooShort, WrongCrc}
-use Rattle.packet.specs.declared.reader.Packet.{Packet}
 use Rattle.packet.proofs.Verdicts.{past}
-use Rattle.packet.proofs.Forms.{packed_parts, packed_right, packed_length, packed_zero, zero_is_right, one_form}
+use Rattle.packet.proofs.Forms.{packed_parts, packed_right, packed_length, one_form}
 
 -- bytes of which no cause of reading applies
 pub record Readable (bs : List ℕ) : Type 0 where
@@ -56,21 +53,12 @@ readable_form bs small h =
 
 -- ---- the reader's laws, from what it answers
 
-module _ (bs : List ℕ) (small : Bytes bs) where
-  pub reads_back : (r : Result Packet DropCause) → shown_in r ≡ read bs → ReadsBack bs r
-  reads_back r e p is few = e ∙ ap read is ∙ packed_read p (omega (arith, ap length is))
+module _ (bs : List ℕ) (told : Result Parts DropCause) (is : told ≡ read bs) where
+  pub reads_back : (p : Parts) → bs ≡ packed p → length bs ≤ max_packet → told ≡ Ok p
+  reads_back p e few = is ∙ ap read e ∙ packed_read p (omega (arith, ap length e))
 
-  pub one_form_read : (r : Result Packet DropCause) → shown_in r ≡ read bs → OneForm bs r
-  one_form_read (Err cause) e = tt
-  one_form_read (Ok p) e =
-      let h = readable_from bs (Ok (parts_of bs)) (shown p) (sym e) in
-      let same : parts_of bs ≡ shown p = cc h.1 in
-      readable_form bs small h.0 ∙ ap packed same
-
-  pub damage_shows : (r : Result Packet DropCause) → shown_in r ≡ read bs → DamageShows bs r
-  damage_shows (Err cause) e p long damage = refl
-  damage_shows (Ok q) e p long damage =
-      let h = (readable_from bs (Ok (parts_of bs)) (shown q) (sym e)).0 in
-      let enough = ltb-false (length bs) min_packet h.enough in
-      let zero : crc bs ≡ 0 = eqb-true (crc bs) 0 (zero_is_right bs (omega arith) small ∙ not-false (crc_right bs) h.right) in
-      absurd (damage_changes_crc (packed p) bs long damage (packed_zero p ∙ sym zero))
+pub form_read : (bs : List ℕ) → Bytes bs → (p : Parts) → Ok p ≡ read bs → bs ≡ packed p
+form_read bs small p is =
+    let h = readable_from bs (Ok (parts_of bs)) p (sym is) in
+    let same : parts_of bs ≡ p = cc h.1 in
+    readable_form bs small h.0 ∙ ap packed same

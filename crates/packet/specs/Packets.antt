@@ -2,6 +2,7 @@
 use Rattle.std.specs.Prelude.{ℕ, ◌+◌, ◌-◌, ◌*◌, ◌/◌, ◌%◌, ◌<◌, Bool, List, [], ◌∷◌, ◌++◌, length, take, drop, ◌==◌, slice_index}
 use Rattle.crc.specs.Crc.{crc}
 use Rattle.packet.specs.Limits.{min_packet, data_offset}
+use Rattle.packet.specs.declared.writer.Header.{Header}
 
 -- the parts of a packet
 pub record Parts : Type 0 where
@@ -9,6 +10,10 @@ pub record Parts : Type 0 where
   pub srce : ℕ
   pub kind : ℕ
   pub content : List ℕ
+
+-- those of a packet with this header and data
+abbrev pub headed : Header → List ℕ → Parts
+headed h content = record { dest = h.dest; srce = h.srce; kind = h.kind.0; content = content }
 
 -- the bytes that the CRC covers
 abbrev pub covered : Parts → List ℕ

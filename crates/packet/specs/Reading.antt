@@ -3,11 +3,13 @@ use Rattle.std.specs.Prelude.{◌≡◌, ℕ, ◌-◌, ◌≤◌, Bool, true, fa
 use Rattle.crc.specs.Detection.{Damage}
 use Rattle.frame.specs.Limits.{max_packet}
 use Rattle.packet.specs.Limits.{min_packet, data_offset}
-use Rattle.packet.specs.Packets.{Parts, packed, parts_of, crc_right}
+use Rattle.packet.specs.Packets.{Parts, headed, packed, parts_of, crc_right}
 use Rattle.packet.specs.Causes.{first_cause}
 use Rattle.packet.specs.declared.causes.DropCause.{DropCause}
 use Rattle.packet.specs.declared.causes.DropCause.TheVariants.{Empty, TooLong, TooShort, WrongCrc}
 use Rattle.packet.specs.declared.reader.Packet.{Packet}
+use Rattle.packet.specs.declared.reader.Part.{Part}
+use Rattle.packet.specs.declared.writer.Header.{Header}
 
 -- no byte is among them
 abbrev pub none : List ℕ → Bool
@@ -28,9 +30,16 @@ read bs = first_cause (reading_causes bs) (Ok (parts_of bs))
 
 -- ---- the reader
 
--- the parts that a packet shows
+-- what a packet shows: its header, and its data as a part of the bytes
+abbrev pub header_of : Packet → Header
+header_of p = p.header
+
+abbrev pub data_of : Packet → Part
+data_of p = p.«data»
+
+-- the parts that it shows
 abbrev pub shown : Packet → Parts
-shown p = record { dest = p.header.dest; srce = p.header.srce; kind = p.header.kind.0; content = p.«data».bytes.now }
+shown p = headed (header_of p) (data_of p).bytes.now
 
 abbrev pub shown_in : Result Packet DropCause → Result Parts DropCause
 shown_in (Ok p) = Ok (shown p)
@@ -39,7 +48,7 @@ shown_in (Err cause) = Err cause
 -- the data is shown as a part of the bytes, with its place in them
 abbrev pub PartOf : List ℕ → Result Packet DropCause → Type 0
 PartOf bs r =
-    IfOk r (λ p. (p.«data».offset ≡ data_offset) × (p.«data».bytes.now ≡ take (length bs - min_packet) (drop p.«data».offset bs)))
+    IfOk r (λ p. ((data_of p).offset ≡ data_offset) × ((data_of p).bytes.now ≡ take (length bs - min_packet) (drop (data_of p).offset bs)))
 
 -- ---- laws
 

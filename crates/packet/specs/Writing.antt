@@ -4,13 +4,9 @@ use Rattle.refusals.specs.declared.Refusal.{Refusal}
 use Rattle.refusals.specs.declared.Refusal.TheVariants.{ShortBuffer, TooMuchData}
 use Rattle.frame.specs.Buffer.{laid}
 use Rattle.packet.specs.Limits.{min_packet, max_data}
-use Rattle.packet.specs.Packets.{Parts, packed}
+use Rattle.packet.specs.Packets.{headed, packed}
 use Rattle.packet.specs.Reading.{read}
 use Rattle.packet.specs.declared.writer.Header.{Header}
-
--- the parts of a packet with this header and data
-abbrev pub headed : Header → List ℕ → Parts
-headed h content = record { dest = h.dest; srce = h.srce; kind = h.kind.0; content = content }
 
 -- a packet is refused where the buffer is shorter than it, and where it has too much data
 abbrev pub write_answer : ℕ → ℕ → Result ℕ Refusal

@@ -2,8 +2,8 @@
 ghost use Rattle.std.specs.Prelude.{◌≡◌, ◌+◌, ◌≤◌, length};
 ghost use Rattle.frame.specs.Buffer.{laid, Lays};
 ghost use Rattle.packet.specs.Limits.{min_packet};
-ghost use Rattle.packet.specs.Packets.{packed};
-ghost use Rattle.packet.specs.Writing.{headed, write_answer, write_left, WrittenReads};
+ghost use Rattle.packet.specs.Packets.{headed, packed};
+ghost use Rattle.packet.specs.Writing.{write_answer, write_left, WrittenReads};
 
 use crate::kinds::Kind;
 use crate::{MAX_DATA, MIN_PACKET};

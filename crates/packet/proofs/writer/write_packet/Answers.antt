@@ -1,7 +1,8 @@
 use Rattle.std.proofs.Common.{ℕ, ◌+◌, ltb, List, length, sym, subst, arith}
 use Rattle.std.proofs.lemmas.Bool.{cond_both, ltb-false}
 use Rattle.packet.specs.Limits.{min_packet, max_data}
-use Rattle.packet.specs.Writing.{headed, write_answer, WrittenReads}
+use Rattle.packet.specs.Packets.{headed}
+use Rattle.packet.specs.Writing.{write_answer, WrittenReads}
 use Rattle.packet.specs.declared.writer.Header.{Header}
 use Rattle.packet.proofs.Forms.{packed_length}
 use Rattle.packet.proofs.Readings.{packed_read}

@@ -1,16 +1,23 @@
-use Rattle.packet.proofs.Forms.{bytes_from}
-use Rattle.packet.proofs.Readings.{reads_back, one_form_read, damage_shows}
+use Rattle.std.proofs.Common.{rules}
+use Rattle.packet.specs.Packets.{packed}
+use Rattle.packet.proofs.Forms.{packed_zero, bytes_from, zero_is_right}
+use Rattle.packet.proofs.Readings.{reads_back, form_read}
 use Rattle.packet.proofs.reader.Packet.read.Goals as goal
 
-pub returns : goal.returns
-returns c =
-    let bs = c.args.bytes.now in
-    let small = bytes_from bs c.type_inv.bytes in
-    let e = c.parse.ensures.value in
-    record {
-      value = e;
-      place = c.parse.ensures.place;
-      reads_back = reads_back bs small _ e;
-      one_form = one_form_read bs small _ e;
-      damage = damage_shows bs small _ e;
-    }
+pub returns-then-is_empty-clause-reads_back : goal.returns-then-is_empty-clause-reads_back
+returns-then-is_empty-clause-reads_back c = reads_back c.args.bytes.now _ (search rules)
+
+pub returns-in_default-clause-reads_back : goal.returns-in_default-clause-reads_back
+returns-in_default-clause-reads_back c = reads_back c.args.bytes.now _ (search rules)
+
+pub returns-then-not-intact-clause-reads_back : goal.returns-then-not-intact-clause-reads_back
+returns-then-not-intact-clause-reads_back c = reads_back c.args.bytes.now _ (search (rules, zero_is_right, bytes_from))
+
+pub returns-clause-reads_back : goal.returns-clause-reads_back
+returns-clause-reads_back c = reads_back c.args.bytes.now _ (search (rules, zero_is_right, bytes_from))
+
+pub returns-clause-one_form : goal.returns-clause-one_form
+returns-clause-one_form c = form_read c.args.bytes.now (bytes_from _ c.type_inv.bytes) _ (search (rules, zero_is_right, bytes_from))
+
+pub returns-clause-damage : goal.returns-clause-damage
+returns-clause-damage c p long damage = cc (c.intact.ensures.detects.damage (packed p) (packed_zero p) long damage)
