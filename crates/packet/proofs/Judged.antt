@@ -1,12 +1,12 @@
 -- Judging the bytes of a segment, and what a receiver kept of it.
-use Rattle.std.proofs.Common.{◌≡◌, ℕ, cond, ltb, List, [], ◌∷◌, length, take, Ok, Err, Result, sym, refl, ap, ◌∙◌, ⊎_elim}
+use Rattle.std.proofs.Common.{◌≡◌, ℕ, cond, ltb, List, [], ◌∷◌, length, take, Some, None, Ok, Err, Result, is_none, sym, refl, ap, ◌∙◌, ⊎_elim}
 use Rattle.std.proofs.lemmas.List.{take_all}
-use Rattle.std.proofs.lemmas.Bool.{lt-ltb, le-ltb, cases_lt, cond-true, cond-false}
+use Rattle.std.proofs.lemmas.Bool.{lt-ltb, le-ltb, cases_lt, cond-true, cond-false, cond_both}
 use Rattle.frame.specs.Limits.{max_packet}
 use Rattle.frame.specs.Framing.{bad_escape}
 use Rattle.frame.specs.Escapes.{in_escape, meant_by, unescaped}
 use Rattle.frame.specs.Segment.{Segment}
-use Rattle.frame.specs.Receiving.{Holds}
+use Rattle.frame.specs.Receiving.{kept, few, Holds}
 use Rattle.frame.specs.declared.receiver.Digest.{Digest}
 use Rattle.frame.proofs.Escaped.{bad_is}
 use Rattle.packet.specs.Packets.{Parts, parts_of}
@@ -55,12 +55,22 @@ unfolding judge_bytes bad_escape meant_by
 empty_first station [] = refl
 empty_first station (b ∷ bs) = refl
 
+few_is_none : (u : List ℕ) → is_none (few u) ≡ ltb max_packet (length u)
+few_is_none u = cond_both (ltb max_packet (length u)) None (Some (length u)) (λ o. is_none o ≡ ltb max_packet (length u)) sym sym
+
 pub kept_is_judged : (station : Station) (d : Digest) (memory : List ℕ) (s : Segment) → Holds d memory s
-    → judge_kept station d (take d.count memory) ≡ judge station s
+    → judge_kept station d (take (kept d) memory) ≡ judge station s
 unfolding judge
 kept_is_judged station d memory s h =
     let u = unescaped s.came in
+    let more : is_none d.count ≡ ltb max_packet (length u) = ap is_none h.count ∙ few_is_none u in
     let bad : in_escape d.escaping ≡ bad_escape s.came = ap in_escape h.escaping ∙ sym (bad_is s.came) in
-    (λ i. cond (h.faulted i) (Err LineFault) (cond (bad i) (Err BadEscape) (cond (h.more i) (Err TooLong) (judge_bytes station (h.front i)))))
+    (λ i. cond (h.faulted i) (Err LineFault) (cond (bad i) (Err BadEscape) (cond (more i) (Err TooLong) (judge_bytes station (h.front i)))))
     ∙ ap (λ (v : Result Parts DropCause). cond s.faulted (Err LineFault) (cond (bad_escape s.came) (Err BadEscape) v)) (clipped station u)
     ∙ ap (cond s.faulted (Err LineFault)) (empty_first station s.came)
+
+-- the laws of a verdict, from what it is
+
+pub told_segment : (station : Station) (d : Digest) (memory : List ℕ) (told : Result Parts DropCause) (s : Segment) → Holds d memory s
+    → told ≡ judge_kept station d (take (kept d) memory) → told ≡ judge station s
+told_segment station d memory told s h is = is ∙ kept_is_judged station d memory s h

@@ -1,18 +1,20 @@
 -- A segment is judged to be a packet exactly where it is a valid one with that packet.
-use Rattle.std.proofs.Common.{◌≡◌, ℕ, ◌<◌, ◌≤◌, false, cond, not, ◌||◌, eqb, List, [], ◌∷◌, ◌++◌, length, Some, None, Ok, Err, Result, sym, refl, ap, ◌∙◌, subst, arith}
+use Rattle.std.proofs.Common.{◌≡◌, ℕ, ◌<◌, ◌≤◌, false, cond, not, ◌||◌, eqb, List, [], ◌∷◌, ◌++◌, length, take, Some, None, Ok, Err, Result, sym, refl, ap, ◌∙◌, subst, arith}
 use Rattle.std.specs.Option.{option_to_list}
 use Rattle.std.proofs.lemmas.Bool.{ltb-false, not-false, or_parts, or_from, cond_both}
 use Rattle.frame.specs.Limits.{max_packet}
 use Rattle.frame.specs.Framing.{flag, escape, escaped_flag, escaped_escape, escaped, bad_escape}
 use Rattle.frame.specs.Escapes.{after, meant, meant_by, unescaped}
 use Rattle.frame.specs.Segment.{Segment}
+use Rattle.frame.specs.Receiving.{kept, Holds}
+use Rattle.frame.specs.declared.receiver.Digest.{Digest}
 use Rattle.frame.specs.declared.escaping.Escaping.{Escaping}
 use Rattle.frame.specs.declared.escaping.Escaping.TheVariants.{Outside, Pending, Broken}
 use Rattle.frame.proofs.Escaped.{reads_back, only_frames_read}
 use Rattle.packet.specs.Limits.{min_packet}
 use Rattle.packet.specs.Packets.{Parts, packed, parts_of, Bytes}
 use Rattle.packet.specs.Reading.{none}
-use Rattle.packet.specs.Judging.{is_for, right_way, judge_packet, judge_bytes, judge}
+use Rattle.packet.specs.Judging.{is_for, right_way, judge_packet, judge_bytes, judge, judge_kept}
 use Rattle.packet.specs.Valid.{Valid, Came, ExactlyValid}
 use Rattle.packet.specs.declared.causes.DropCause.{DropCause}
 use Rattle.packet.specs.declared.causes.DropCause.TheVariants.{LineFault, Empty, BadEscape, NullSource, ForbiddenSource, NotForUs, WrongDirection}
@@ -20,7 +22,7 @@ use Rattle.packet.specs.declared.judging.Station.{Station}
 use Rattle.packet.proofs.Forms.{packed_length}
 use Rattle.packet.proofs.Verdicts.{past}
 use Rattle.packet.proofs.Readings.{Readable, readable_from, readable_form, packed_read}
-use Rattle.packet.proofs.Judged.{judged_ok}
+use Rattle.packet.proofs.Judged.{judged_ok, told_segment}
 
 -- ---- bytes stay bytes
 
@@ -108,3 +110,7 @@ module _ (station : Station) (s : Segment) where
     accepts_only = λ p e. accepts_only came p (sym is ∙ e);
     accepts_all = λ p v. is ∙ accepts_all p v;
   }
+
+pub told_valid : (station : Station) (d : Digest) (memory : List ℕ) (told : Result Parts DropCause) (s : Segment) → Came s → Holds d memory s
+    → told ≡ judge_kept station d (take (kept d) memory) → ExactlyValid station s told
+told_valid station d memory told s came h is = exactly_valid station s came told (told_segment station d memory told s h is)

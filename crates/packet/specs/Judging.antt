@@ -1,6 +1,6 @@
 -- Judging a segment: it is dropped for the first cause that applies, or its packet is valid to the station that judges it.
 -- A segment is judged by itself.
-use Rattle.std.specs.Prelude.{ℕ, Bool, true, not, ◌&&◌, ◌||◌, List, [], ◌∷◌, Ok, Result, ◌==◌}
+use Rattle.std.specs.Prelude.{ℕ, Bool, true, not, ◌&&◌, ◌||◌, List, [], ◌∷◌, Ok, Result, is_none, ◌==◌}
 use Rattle.frame.specs.Framing.{flag, escape, bad_escape}
 use Rattle.frame.specs.Escapes.{unescaped, in_escape}
 use Rattle.frame.specs.Segment.{Segment}
@@ -44,7 +44,7 @@ packet_causes station p =
 
 -- of what a receiver kept of a segment
 abbrev pub digest_causes : Digest → List (Bool × DropCause)
-digest_causes d = (d.faulted, LineFault) ∷ (in_escape d.escaping, BadEscape) ∷ (d.more, TooLong) ∷ []
+digest_causes d = (d.faulted, LineFault) ∷ (in_escape d.escaping, BadEscape) ∷ (is_none d.count, TooLong) ∷ []
 
 -- ---- the verdict
 

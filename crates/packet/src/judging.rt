@@ -1,7 +1,7 @@
 //! Judging what came over the line.
 ghost use Rattle.std.specs.Prelude.{◌≡◌, take};
 ghost use Rattle.frame.specs.Segment.{Segment};
-ghost use Rattle.frame.specs.Receiving.{Holds};
+ghost use Rattle.frame.specs.Receiving.{kept, Holds};
 ghost use Rattle.packet.specs.Reading.{shown, shown_in};
 ghost use Rattle.packet.specs.Judging.{is_for, right_way, judge_packet, judge_bytes, judge as segment_verdict, judge_kept};
 ghost use Rattle.packet.specs.Valid.{Came, ExactlyValid};
@@ -71,30 +71,22 @@ impl Station {
         self.sift(packet)
     }
 
-    /// Judges a segment by what a receiver kept of it.
-    fn weigh<'a>(self, digest: Digest, memory: &'a [u8]) -> Result<Packet<'a>, DropCause>
-        ensures { shown_in result ≡ judge_kept self digest (take digest.count memory.now) }
-    {
-        if digest.faulted {
-            return Err(DropCause::LineFault);
-        }
-        match digest.escaping {
-            Escaping::Outside => {}
-            Escaping::Pending | Escaping::Broken => return Err(DropCause::BadEscape),
-        }
-        if digest.more {
-            return Err(DropCause::TooLong);
-        }
-        self.judge_bytes(digest.bytes(memory))
-    }
-
     /// Judges a segment by what a receiver kept of it: the digest, and the memory that holds the bytes it stands for. The segment
     /// is dropped for the first cause that applies to it, or it is a valid one and this is its packet.
+    #[tactic(auto, using(crate::proofs::Judged::told_segment, crate::proofs::Validity::told_valid))]
     pub fn judge<'a>(self, digest: Digest, memory: &'a [u8]) -> Result<Packet<'a>, DropCause>
-        ensures value { shown_in result ≡ judge_kept self digest (take digest.count memory.now) }
+        ensures value { shown_in result ≡ judge_kept self digest (take (kept digest) memory.now) }
         ensures segment { (s : Segment) → Holds digest memory.now s → shown_in result ≡ segment_verdict self s }
         ensures valid { (s : Segment) → Came s → Holds digest memory.now s → ExactlyValid self s (shown_in result) }
     {
-        self.weigh(digest, memory)
+        match digest {
+            Digest { faulted: true, .. } => Err(DropCause::LineFault),
+            Digest {
+                escaping: Escaping::Pending | Escaping::Broken,
+                ..
+            } => Err(DropCause::BadEscape),
+            Digest { count: None, .. } => Err(DropCause::TooLong),
+            _ => self.judge_bytes(digest.bytes(memory)),
+        }
     }
 }
