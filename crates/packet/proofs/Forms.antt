@@ -1,5 +1,6 @@
 -- A packet and its bytes give back one another.
 use Rattle.std.proofs.Common.{◌≡◌, ℕ, suc, ◌+◌, ◌-◌, ◌*◌, ◌/◌, ◌%◌, ◌<◌, ◌≤◌, true, eqb, List, [], ◌∷◌, ◌++◌, length, get_or, take, sym, refl, ap, ◌∙◌, ⊎_elim, arith, w8, Fits}
+use Rattle.std.specs.Int.{w16, to_le_bytes, byte_at}
 use Rattle.std.proofs.lemmas.Bool.{eqb-true, eqb-false, eq-eqb, ne_eqb, cases_Bool}
 use Rattle.crc.specs.Crc.{crc}
 use Rattle.crc.proofs.Residue.{own_crc_gives_zero, zero_needs_own_crc}
@@ -61,6 +62,13 @@ said n lo hi h k e =
     let q : n / 256 ≡ hi = omega (arith, e) in
     let f : n % 256 ≡ lo = omega (arith, e, q) in
     λ i. f i ∷ q i ∷ []
+
+-- a CRC as it is sent is its two bytes, low byte first
+pub sent_le : (n : ℕ) → n < 65536 → to_le_bytes w16 n ≡ sent n
+sent_le n h =
+    let low : byte_at 0 n ≡ n % 256 = omega arith in
+    let high : byte_at 1 n ≡ n / 256 = omega arith in
+    λ i. low i ∷ high i ∷ []
 
 -- over all bytes the CRC is 0 exactly where the last two are right
 ends_zero : (ys : List ℕ) (lo hi : ℕ) → lo < 256 → hi < 256 → eqb (crc (ys ++ lo ∷ hi ∷ [])) 0 ≡ eqb (lo + 256 * hi) (crc ys)

@@ -1,3 +1,4 @@
+pub mod Copies
 pub mod Forms
 pub mod Verdicts
 pub mod Readings

@@ -9,21 +9,22 @@ impl fmt::Display for PacketType {
     ghost output = { λ t. Some (type_text t) };
 
     fn fmt<W: fmt::Write>(&self, f: &mut fmt::Formatter<W>) -> fmt::Result {
-        match self {
-            PacketType::Ping => f.write_str("PING"),
-            PacketType::Init => f.write_str("INIT"),
-            PacketType::Ack => f.write_str("ACK"),
-            PacketType::Nak => f.write_str("NAK"),
-            PacketType::Get => f.write_str("GET"),
-            PacketType::Put => f.write_str("PUT"),
-            PacketType::Read => f.write_str("READ"),
-            PacketType::Write => f.write_str("WRITE"),
-            PacketType::Id => f.write_str("ID"),
-            PacketType::Addrt => f.write_str("ADDRT"),
-            PacketType::Delrt => f.write_str("DELRT"),
-            PacketType::Getrt => f.write_str("GETRT"),
-            PacketType::Other(number) => write!(f, "TYPE{number}"),
-        }
+        let name = match self {
+            PacketType::Ping => "PING",
+            PacketType::Init => "INIT",
+            PacketType::Ack => "ACK",
+            PacketType::Nak => "NAK",
+            PacketType::Get => "GET",
+            PacketType::Put => "PUT",
+            PacketType::Read => "READ",
+            PacketType::Write => "WRITE",
+            PacketType::Id => "ID",
+            PacketType::Addrt => "ADDRT",
+            PacketType::Delrt => "DELRT",
+            PacketType::Getrt => "GETRT",
+            PacketType::Other(number) => return write!(f, "TYPE{number}"),
+        };
+        f.write_str(name)
     }
 }
 

@@ -1,12 +1,12 @@
 //! Writing a packet with its CRC.
 ghost use Rattle.std.specs.Prelude.{◌≡◌, ◌+◌, ◌≤◌, length};
-ghost use Rattle.frame.specs.Buffer.{laid, Lays};
+ghost use Rattle.frame.specs.Buffer.{laid};
 ghost use Rattle.packet.specs.Limits.{min_packet};
 ghost use Rattle.packet.specs.Packets.{headed, packed};
 ghost use Rattle.packet.specs.Writing.{write_answer, write_left, WrittenReads};
 
 use crate::kinds::Kind;
-use crate::{MAX_DATA, MIN_PACKET};
+use crate::{DATA_OFFSET, MAX_DATA, MIN_PACKET};
 use crc::checksum;
 use refusals::Refusal;
 
@@ -18,44 +18,18 @@ pub struct Header {
     pub kind: Kind,
 }
 
-/// Writes bytes at `at`, and tells the place behind them.
-fn put(out: &mut [u8], at: usize, bytes: &[u8]) -> usize
-    requires { at + length bytes.now ≤ length out.old }
-    ensures next { result ≡ at + length bytes.now }
-    ensures lays { Lays out.old out.new at bytes.now }
-{
-    let end = at + bytes.len();
-    out[at..end].copy_from_slice(bytes);
-    end
-}
-
 /// Writes a packet at the front of a buffer that has room for it, and tells its length.
 fn lay(header: Header, data: &[u8], out: &mut [u8]) -> usize
     requires { length «data».now + min_packet ≤ length out.old }
     ensures size { result ≡ length «data».now + min_packet }
     ensures written { out.new ≡ laid (packed (headed header «data».now)) out.old }
 {
-    let inside = put(out, 0, &[header.dest, header.srce, header.kind.0]);
-    let behind = put(out, inside, data);
-    let crc = checksum(&out[0..behind]);
-    put(out, behind, &[(crc % 256) as u8, (crc / 256) as u8])
-}
-
-/// Writes a packet, unless the buffer is shorter than it or it has too much data.
-fn write(header: Header, data: &[u8], out: &mut [u8]) -> Result<usize, Refusal>
-    ensures told { result ≡ write_answer (length «data».now) (length out.old) }
-    ensures written { out.new ≡ write_left header «data».now out.old }
-{
-    if out.len() < MIN_PACKET {
-        return Err(Refusal::ShortBuffer);
-    }
-    if out.len() - MIN_PACKET < data.len() {
-        return Err(Refusal::ShortBuffer);
-    }
-    if data.len() > MAX_DATA {
-        return Err(Refusal::TooMuchData);
-    }
-    Ok(lay(header, data, out))
+    let end = DATA_OFFSET + data.len();
+    out[..DATA_OFFSET].copy_from_slice(&[header.dest, header.srce, header.kind.0]);
+    out[DATA_OFFSET..end].copy_from_slice(data);
+    let crc = checksum(&out[..end]);
+    out[end..end + 2].copy_from_slice(&crc.to_le_bytes());
+    end + 2
 }
 
 /// Writes a packet with its CRC at the front of `out`, and tells its length. A buffer that is shorter than the packet is refused,
@@ -65,5 +39,11 @@ pub fn write_packet(header: Header, data: &[u8], out: &mut [u8]) -> Result<usize
     ensures written { out.new ≡ write_left header «data».now out.old }
     ensures reads_back { WrittenReads header «data».now result }
 {
-    write(header, data, out)
+    if out.len() < data.len() + MIN_PACKET {
+        return Err(Refusal::ShortBuffer);
+    }
+    if data.len() > MAX_DATA {
+        return Err(Refusal::TooMuchData);
+    }
+    Ok(lay(header, data, out))
 }
