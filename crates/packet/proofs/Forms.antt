@@ -1,6 +1,7 @@
 -- A packet and its bytes give back one another.
-use Rattle.std.proofs.Common.{◌≡◌, ℕ, suc, ◌+◌, ◌-◌, ◌*◌, ◌/◌, ◌%◌, ◌<◌, ◌≤◌, true, eqb, List, [], ◌∷◌, ◌++◌, length, get_or, take, sym, refl, ap, ◌∙◌, ⊎_elim, arith, w8, Fits}
+use Rattle.std.proofs.Common.{◌≡◌, ℕ, suc, ◌+◌, ◌-◌, ◌*◌, ◌/◌, ◌%◌, ◌<◌, ◌≤◌, true, eqb, List, [], ◌∷◌, ◌++◌, length, get_or, take, sym, refl, ap, ◌∙◌, ⊎_elim, length-append, arith, w8, Fits}
 use Rattle.std.specs.Int.{w16, to_le_bytes, byte_at}
+use Rattle.std.proofs.lemmas.List.{take_at, get_or_at, get_or-append-add}
 use Rattle.std.proofs.lemmas.Bool.{eqb-true, eqb-false, eq-eqb, ne_eqb, cases_Bool}
 use Rattle.crc.specs.Crc.{crc}
 use Rattle.crc.proofs.Residue.{own_crc_gives_zero, zero_needs_own_crc}
@@ -12,23 +13,7 @@ pub bytes_from : (bs : List ℕ) → ((i : ℕ) → Fits w8 (get_or bs i 0)) →
 bytes_from [] h = tt
 bytes_from (b ∷ bs) h = ((h 0).fits, bytes_from bs (λ i. h (suc i)))
 
--- ---- a list with two elements behind it
-
-pub two_more : (ys : List ℕ) (lo hi : ℕ) → length (ys ++ lo ∷ hi ∷ []) ≡ suc (suc (length ys))
-two_more [] lo hi = refl
-two_more (y ∷ ys) lo hi = ap suc (two_more ys lo hi)
-
-low_is : (ys : List ℕ) (lo hi : ℕ) → get_or (ys ++ lo ∷ hi ∷ []) (length ys) 0 ≡ lo
-low_is [] lo hi = refl
-low_is (y ∷ ys) lo hi = low_is ys lo hi
-
-high_is : (ys : List ℕ) (lo hi : ℕ) → get_or (ys ++ lo ∷ hi ∷ []) (suc (length ys)) 0 ≡ hi
-high_is [] lo hi = refl
-high_is (y ∷ ys) lo hi = high_is ys lo hi
-
-front_is : (ys : List ℕ) (lo hi : ℕ) → take (length ys) (ys ++ lo ∷ hi ∷ []) ≡ ys
-front_is [] lo hi = refl
-front_is (y ∷ ys) lo hi = ap (λ (z : List ℕ). y ∷ z) (front_is ys lo hi)
+-- ---- the CRC of bytes that end in two
 
 -- a list of at least two elements ends in two
 record Ends (xs : List ℕ) : Type 0 where
@@ -44,17 +29,15 @@ ends x y (z ∷ xs) =
     let r = ends y z xs in
     record { front = x ∷ r.front; lo = r.lo; hi = r.hi; whole = ap (λ (w : List ℕ). x ∷ w) r.whole; small = λ h. r.small h.1 }
 
--- ---- the CRC of bytes that end in two
-
 right_is : (ys : List ℕ) (lo hi : ℕ) → crc_right (ys ++ lo ∷ hi ∷ []) ≡ eqb (lo + 256 * hi) (crc ys)
 unfolding crc_right
 right_is ys lo hi =
     let bs = ys ++ lo ∷ hi ∷ [] in
-    let n = two_more ys lo hi in
-    let e : length bs - 2 ≡ length ys = omega (arith, n) in
-    let f : length bs - 1 ≡ suc (length ys) = omega (arith, n) in
+    let last = lo ∷ hi ∷ [] in
+    let e : length bs - 2 ≡ length ys = omega (arith, length-append ys last) in
+    let f : length bs - 1 ≡ length ys + 1 = omega (arith, length-append ys last) in
     (λ i. eqb (get_or bs (e i) 0 + 256 * get_or bs (f i) 0) (crc (take (e i) bs)))
-    ∙ (λ i. eqb (low_is ys lo hi i + 256 * high_is ys lo hi i) (crc (front_is ys lo hi i)))
+    ∙ (λ i. eqb (get_or_at ys lo (hi ∷ []) 0 (length ys) refl i + 256 * get_or-append-add ys last 1 0 i) (crc (take_at ys last (length ys) refl i)))
 
 -- two bytes that say a CRC are that CRC as it is sent
 said : (n lo hi : ℕ) → lo < 256 → hi < 256 → lo + 256 * hi ≡ n → sent n ≡ lo ∷ hi ∷ []
@@ -99,9 +82,9 @@ zero_is_right (x ∷ (y ∷ xs)) n h =
 stands_for : (a b c lo hi : ℕ) (xs : List ℕ) →
     parts_of (a ∷ b ∷ c ∷ (xs ++ lo ∷ hi ∷ [])) ≡ record { dest = a; srce = b; kind = c; content = xs }
 stands_for a b c lo hi xs =
-    let n = two_more xs lo hi in
-    let e : suc (suc (suc (length (xs ++ lo ∷ hi ∷ [])))) - min_packet ≡ length xs = omega (arith, n) in
-    (λ i. record { dest = a; srce = b; kind = c; content = (ap (λ (k : ℕ). take k (xs ++ lo ∷ hi ∷ [])) e ∙ front_is xs lo hi) i })
+    let last = lo ∷ hi ∷ [] in
+    let e : suc (suc (suc (length (xs ++ last)))) - min_packet ≡ length xs = omega (arith, length-append xs last) in
+    (λ i. record { dest = a; srce = b; kind = c; content = (ap (λ (k : ℕ). take k (xs ++ last)) e ∙ take_at xs last (length xs) refl) i })
 
 pub packed_parts : (p : Parts) → parts_of (packed p) ≡ p
 unfolding packed
@@ -115,7 +98,7 @@ packed_right p =
 
 pub packed_length : (p : Parts) → length (packed p) ≡ length p.content + min_packet
 unfolding packed
-packed_length p = let n = crc (covered p) in omega (arith, two_more p.content (n % 256) (n / 256))
+packed_length p = omega (arith, length-append p.content (sent (crc (covered p))))
 
 pub packed_zero : (p : Parts) → crc (packed p) ≡ 0
 unfolding packed

@@ -1,7 +1,7 @@
 -- Judging the bytes of a segment, and what a receiver kept of it.
 use Rattle.std.proofs.Common.{◌≡◌, ℕ, cond, ltb, List, [], ◌∷◌, length, take, Some, None, Ok, Err, Result, is_none, sym, refl, ap, ◌∙◌, ⊎_elim}
 use Rattle.std.proofs.lemmas.List.{take_all}
-use Rattle.std.proofs.lemmas.Bool.{lt-ltb, le-ltb, cases_lt, cond-true, cond-false, cond_both}
+use Rattle.std.proofs.lemmas.Bool.{lt-ltb, le-ltb, cases_lt, cond-false, cond_both}
 use Rattle.frame.specs.Limits.{max_packet}
 use Rattle.frame.specs.Framing.{bad_escape}
 use Rattle.frame.specs.Escapes.{in_escape, meant_by, unescaped}
@@ -40,11 +40,8 @@ unfolding judge_bytes
 clipped station [] = refl
 clipped station (b ∷ u) =
     ⊎_elim
-    (λ over.
-    let t = lt-ltb max_packet (length (b ∷ u)) over in
-    cond-true _ _ _ t ∙ sym (cond-true (ltb max_packet (length (b ∷ u))) (Err TooLong) _ t))
-    (λ fits.
-    cond-false _ _ _ (le-ltb max_packet (length (b ∷ u)) fits) ∙ ap (judge_bytes station) (take_all max_packet (b ∷ u) fits))
+    (λ over. rw (lt-ltb max_packet (length (b ∷ u)) over) refl)
+    (λ fits. cond-false _ _ _ (le-ltb max_packet (length (b ∷ u)) fits) ∙ ap (judge_bytes station) (take_all max_packet (b ∷ u) fits))
     (cases_lt max_packet (length (b ∷ u)))
 
 -- no byte is a cause of its own only where there is no fault, and no escape then

@@ -1,5 +1,6 @@
 -- A packet: destination, source, type byte and data, and two bytes of CRC over all of these, low byte first.
 use Rattle.std.specs.Prelude.{ℕ, ◌+◌, ◌-◌, ◌*◌, ◌/◌, ◌%◌, ◌<◌, Bool, List, [], ◌∷◌, ◌++◌, length, take, drop, ◌==◌, slice_index}
+use Rattle.std.specs.List.{AllByRecursion}
 use Rattle.crc.specs.Crc.{crc}
 use Rattle.packet.specs.Limits.{min_packet, data_offset}
 use Rattle.packet.specs.declared.writer.Header.{Header}
@@ -41,5 +42,4 @@ crc_right bs = slice_index bs (length bs - 2) + 256 * slice_index bs (length bs 
 
 -- every number is a byte
 abbrev pub Bytes : List ℕ → Type 0
-Bytes [] = Unit {0}
-Bytes (b ∷ bs) = (b < 256) × Bytes bs
+Bytes = AllByRecursion (λ b. b < 256)
