@@ -52,10 +52,12 @@ unfolding judge_bytes bad_escape meant_by
 empty_first station [] = refl
 empty_first station (b ∷ bs) = refl
 
+-- a count is missing exactly where there are too many bytes
 few_is_none : (u : List ℕ) → is_none (few u) ≡ ltb max_packet (length u)
 few_is_none u = cond_both (ltb max_packet (length u)) None (Some (length u)) (λ o. is_none o ≡ ltb max_packet (length u)) sym sym
 
-pub kept_is_judged : (station : Station) (d : Digest) (memory : List ℕ) (s : Segment) → Holds d memory s
+-- what a receiver kept is judged as the segment itself
+kept_is_judged : (station : Station) (d : Digest) (memory : List ℕ) (s : Segment) → Holds d memory s
     → judge_kept station d (take (kept d) memory) ≡ judge station s
 unfolding judge
 kept_is_judged station d memory s h =
@@ -66,8 +68,7 @@ kept_is_judged station d memory s h =
     ∙ ap (λ (v : Result Parts DropCause). cond s.faulted (Err LineFault) (cond (bad_escape s.came) (Err BadEscape) v)) (clipped station u)
     ∙ ap (cond s.faulted (Err LineFault)) (empty_first station s.came)
 
--- the laws of a verdict, from what it is
-
+-- so a verdict on what was kept is the one on the segment
 pub told_segment : (station : Station) (d : Digest) (memory : List ℕ) (told : Result Parts DropCause) (s : Segment) → Holds d memory s
     → told ≡ judge_kept station d (take (kept d) memory) → told ≡ judge station s
 told_segment station d memory told s h is = is ∙ kept_is_judged station d memory s h

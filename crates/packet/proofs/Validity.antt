@@ -111,6 +111,7 @@ module _ (station : Station) (s : Segment) where
     accepts_all = λ p v. is ∙ accepts_all p v;
   }
 
+-- a verdict on what a receiver kept is a packet exactly where the segment is a valid one with that packet
 pub told_valid : (station : Station) (d : Digest) (memory : List ℕ) (told : Result Parts DropCause) (s : Segment) → Came s → Holds d memory s
     → told ≡ judge_kept station d (take (kept d) memory) → ExactlyValid station s told
 told_valid station d memory told s came h is = exactly_valid station s came told (told_segment station d memory told s h is)

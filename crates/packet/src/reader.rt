@@ -40,6 +40,7 @@ impl<'a> Packet<'a> {
         if bytes.len() > MAX_PACKET {
             return Err(DropCause::TooLong);
         }
+        // behind the data stand the two bytes of the CRC
         let [dest, srce, kind, data @ .., _, _] = bytes else {
             return Err(DropCause::TooShort);
         };
