@@ -1,6 +1,6 @@
 -- What is written of a segment: its packet, as destination < source, type and data; or the number of the cause for which it is
 -- dropped. Nothing is written of an empty segment.
-use Rattle.std.specs.Prelude.{ℕ, cond, List, [], ◌++◌, Ok, Err, codes, decimal, Result, ◌==◌}
+use Rattle.std.specs.Prelude.{ℕ, List, [], ◌++◌, Ok, Err, codes, decimal, Result}
 use Rattle.frame.specs.Segment.{Segment}
 use Rattle.packet.specs.Names.{kind_text}
 use Rattle.packet.specs.Packets.{Parts}
@@ -18,8 +18,8 @@ packet_text p =
 
 -- drop 6; nothing of an empty segment
 abbrev pub drop_text : DropCause → List ℕ
-drop_text cause =
-    cond (drop_number cause == drop_number Empty) [] (codes "drop " ++ (decimal (drop_number cause) ++ codes "\n"))
+drop_text Empty = []
+drop_text cause = codes "drop " ++ (decimal (drop_number cause) ++ codes "\n")
 
 abbrev pub verdict_text : Result Parts DropCause → List ℕ
 verdict_text (Ok p) = packet_text p

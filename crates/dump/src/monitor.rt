@@ -1,8 +1,6 @@
 //! A monitor of the bus, which obeys the lines of a recording: it hears every packet, and tells what every segment is.
-ghost use Rattle.std.specs.Prelude.{◌≡◌, ℕ, List, [], ◌∷◌, map, length, IfOk};
+ghost use Rattle.std.specs.Prelude.{[], ◌∷◌, map, IfOk};
 ghost use Rattle.frame.specs.Arrivals.Arrival.{byte as byte_came};
-ghost use Rattle.frame.specs.Limits.{max_packet};
-ghost use Rattle.frame.specs.Receiving.{blank};
 ghost use Rattle.bench.specs.Lines.LineValue.{bytes as bytes_came};
 ghost use Rattle.session.specs.Obeying.{Obeys};
 ghost use Rattle.dump.specs.Dumped.{dumped};
@@ -10,51 +8,15 @@ ghost use Rattle.dump.specs.Hearing.{Hears};
 ghost use Rattle.dump.specs.Monitored.{Heard};
 ghost use Rattle.dump.specs.Silent.{silent_start};
 
-use crate::texts::verdict_text;
+use crate::texts::Verdict;
 use bench::line::Line;
 use frame::MAX_PACKET;
 use frame::receiver::Receiver;
 use packet::judging::Station;
 use session::obey::Obey;
-use session::texts::append;
 use std::alloc::{AllocError, Global};
 
-/// Hears one byte, and tells the text of the segment that it closes.
-fn hear(
-    receiver: &mut Receiver,
-    memory: &mut [u8],
-    heap: Global,
-    byte: u8,
-) -> Result<String, AllocError>
-    ensures { IfOk result (Hears receiver.old memory.old (byte_came byte ∷ []) receiver.new memory.new) }
-{
-    let Ok(closed) = receiver.byte(byte, memory) else {
-        return Ok(String::new(heap));
-    };
-    match closed {
-        Some(digest) => verdict_text(heap, Station::Monitor.judge(digest, memory)),
-        None => Ok(String::new(heap)),
-    }
-}
-
-/// Hears bytes, and tells the texts of the segments that they close.
-fn hear_all(
-    receiver: &mut Receiver,
-    memory: &mut [u8],
-    heap: Global,
-    bytes: &[u8],
-) -> Result<String, AllocError>
-    ensures { IfOk result (Hears receiver.old memory.old (map byte_came bytes.now) receiver.new memory.new) }
-{
-    let mut out = String::new(heap);
-    for byte in bytes {
-        let text = hear(receiver, memory, heap, *byte)?;
-        out = append(out, text.as_str())?;
-    }
-    Ok(out)
-}
-
-/// A monitor, from its power-up on.
+/// A monitor, from its power-up on: a receiver, and the memory that it gathers a segment in.
 #[derive(Clone, Copy)]
 pub struct BusMonitor {
     receiver: Receiver,
@@ -62,9 +24,9 @@ pub struct BusMonitor {
 }
 
 impl BusMonitor {
-    fn start() -> BusMonitor
-        ensures digest { result.receiver.digest ≡ blank }
-        ensures room { length result.memory ≡ max_packet }
+    /// Before anything came.
+    pub fn new() -> BusMonitor
+        ensures { Heard result [] }
     {
         BusMonitor {
             receiver: Receiver::new(),
@@ -72,22 +34,40 @@ impl BusMonitor {
         }
     }
 
-    /// Before anything came.
-    pub fn new() -> BusMonitor
-        ensures { Heard result [] }
+    /// Hears one byte, and tells the text of the segment that it closes.
+    fn hear(&mut self, heap: Global, byte: u8) -> Result<String, AllocError>
+        ensures { IfOk result (Hears self.old (byte_came byte ∷ []) self.new) }
     {
-        BusMonitor::start()
+        match self.receiver.byte(byte, &mut self.memory) {
+            Ok(Some(digest)) => {
+                let verdict = Verdict(Station::Monitor.judge(digest, &self.memory));
+                format!(in heap; "{verdict}")
+            }
+            Ok(None) => Ok(String::new(heap)),
+            // never: the memory is long enough
+            Err(_) => Ok(String::new(heap)),
+        }
+    }
+
+    /// Hears bytes, and tells the texts of the segments that they close.
+    fn hear_all(&mut self, heap: Global, bytes: &[u8]) -> Result<String, AllocError>
+        ensures { IfOk result (Hears self.old (map byte_came bytes.now) self.new) }
+    {
+        let mut out = String::new(heap);
+        for byte in bytes {
+            let text = self.hear(heap, *byte)?;
+            out.push_str(text.as_str())?;
+        }
+        Ok(out)
     }
 
     /// Hears bytes. Where memory runs out, nothing was heard.
     fn bytes(&mut self, heap: Global, bytes: &[u8]) -> Result<String, AllocError>
         ensures { Obeys Heard dumped self.old (bytes_came bytes.now) result self.new }
     {
-        let mut receiver = self.receiver;
-        let mut memory = self.memory;
-        let out = hear_all(&mut receiver, &mut memory, heap, bytes)?;
-        self.receiver = receiver;
-        self.memory = memory;
+        let mut next = *self;
+        let out = next.hear_all(heap, bytes)?;
+        *self = next;
         Ok(out)
     }
 }
