@@ -1,0 +1,6 @@
+use Rattle.std.proofs.Common.{rules}
+use Rattle.crc.proofs.Entries.{entry}
+use Rattle.crc.proofs.step_table.StepTable.at.Goals as goal
+
+pub returns : goal.returns
+returns g c = entry g.row.SCALE c.args.self.now.entries c.args.place c.args.self.now.rule (search rules)
