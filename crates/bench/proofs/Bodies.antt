@@ -6,12 +6,13 @@ use Rattle.std.proofs.lemmas.Bool.{eqb-true}
 use Rattle.frame.specs.Faults.{fault_number}
 use Rattle.frame.specs.declared.faults.LineFault.{LineFault}
 use Rattle.frame.specs.declared.faults.LineFault.TheVariants.{Parity, Overrun, Ownership}
+use Rattle.std.proofs.lemmas.Option.{same_Some, none-some}
 use Rattle.bench.specs.Characters.{space, bytes_mark, step_mark, fault_mark}
 use Rattle.bench.specs.Hex.{pairs_read}
 use Rattle.bench.specs.Limits.{max_line}
 use Rattle.bench.specs.Lines.{LineValue, bytes, step, fault, line_body, LineFits, bytes_read, some_bytes, step_read, fault_digit, fault_of, fault_read, body_read}
 use Rattle.bench.specs.Numbers.{number_read}
-use Rattle.bench.proofs.Options.{same_some, not_none, either, passed, mapped_some}
+use Rattle.bench.proofs.Options.{either, passed, mapped_some}
 use Rattle.bench.proofs.Numbers.{number_exact, number_back}
 use Rattle.bench.proofs.Pairs.{pairs_exact, pairs_back, at_least_one}
 
@@ -26,15 +27,15 @@ bytes_exact : (rest : List ℕ) (v : LineValue) → bytes_read rest ≡ Some v �
 bytes_exact rest v e = from (pairs_read rest) refl e
   where
     from : (o : Option (List ℕ)) → pairs_read rest ≡ o → some_bytes o ≡ Some v → WrittenSo (bytes_mark ∷ rest) v
-    from None is e = absurd (not_none v e)
-    from (Some []) is e = absurd (not_none v e)
+    from None is e = absurd (none-some v e)
+    from (Some []) is e = absurd (none-some v e)
     from (Some (b ∷ bs)) is e =
         let p = pairs_exact rest (b ∷ bs) is in
-        subst (WrittenSo (bytes_mark ∷ rest)) (same_some _ _ e)
+        subst (WrittenSo (bytes_mark ∷ rest)) (same_Some _ _ e)
         (record { fits = λ short. (omega arith, p.0, short); same = ap (λ l. bytes_mark ∷ l) p.1 })
 
 step_exact : (rest : List ℕ) (v : LineValue) → step_read rest ≡ Some v → WrittenSo (step_mark ∷ rest) v
-step_exact [] v e = absurd (not_none v e)
+step_exact [] v e = absurd (none-some v e)
 step_exact (s ∷ ds) v e =
     let p = passed (eqb s space) (option_map (λ n. step n) (number_read ds)) v e in
     let q = mapped_some (λ n. step n) (number_read ds) v p.1 in
@@ -51,28 +52,28 @@ digit_exact : (d : ℕ) (f : LineFault) → fault_of d ≡ Some f → fault_digi
 digit_exact d f =
     either (eqb d (fault_digit Parity)) _ _ f (same Parity) (
     either (eqb d (fault_digit Overrun)) _ _ f (same Overrun) (
-    either (eqb d (fault_digit Ownership)) _ _ f (same Ownership) (λ e. absurd (not_none f e))))
+    either (eqb d (fault_digit Ownership)) _ _ f (same Ownership) (λ e. absurd (none-some f e))))
   where
     same : (g : LineFault) → eqb d (fault_digit g) ≡ true → Some g ≡ Some f → fault_digit f ≡ d
-    same g is e = ap fault_digit (sym (same_some g f e)) ∙ sym (eqb-true d (fault_digit g) is)
+    same g is e = ap fault_digit (sym (same_Some g f e)) ∙ sym (eqb-true d (fault_digit g) is)
 
 fault_exact : (rest : List ℕ) (v : LineValue) → fault_read rest ≡ Some v → WrittenSo (fault_mark ∷ rest) v
-fault_exact [] v e = absurd (not_none v e)
-fault_exact (s ∷ []) v e = absurd (not_none v e)
+fault_exact [] v e = absurd (none-some v e)
+fault_exact (s ∷ []) v e = absurd (none-some v e)
 fault_exact (s ∷ d ∷ []) v e =
     let p = passed (eqb s space) (option_map (λ f. fault f) (fault_of d)) v e in
     let q = mapped_some (λ f. fault f) (fault_of d) v p.1 in
     let number = one_digit q.0 ∙ ap (λ c. c ∷ []) (digit_exact d q.0 q.1) in
     let spaced = sym (eqb-true s space p.0) in
     subst (WrittenSo (fault_mark ∷ s ∷ d ∷ [])) q.2 (record { fits = λ _. tt; same = λ i. fault_mark ∷ spaced i ∷ number i })
-fault_exact (s ∷ d ∷ c ∷ more) v e = absurd (not_none v e)
+fault_exact (s ∷ d ∷ c ∷ more) v e = absurd (none-some v e)
 
 pub body_exact : (body : List ℕ) (v : LineValue) → body_read body ≡ Some v → WrittenSo body v
-body_exact [] v = λ e. absurd (not_none v e)
+body_exact [] v = λ e. absurd (none-some v e)
 body_exact (c ∷ rest) v =
     either (eqb c bytes_mark) _ _ v (λ is e. marked bytes_mark is (bytes_exact rest v e)) (
     either (eqb c step_mark) _ _ v (λ is e. marked step_mark is (step_exact rest v e)) (
-    either (eqb c fault_mark) _ _ v (λ is e. marked fault_mark is (fault_exact rest v e)) (λ e. absurd (not_none v e))))
+    either (eqb c fault_mark) _ _ v (λ is e. marked fault_mark is (fault_exact rest v e)) (λ e. absurd (none-some v e))))
   where
     marked : (mark : ℕ) → eqb c mark ≡ true → WrittenSo (mark ∷ rest) v → WrittenSo (c ∷ rest) v
     marked mark is = subst (λ x. WrittenSo (x ∷ rest) v) (sym (eqb-true c mark is))

@@ -1,7 +1,7 @@
 -- A line ends in its line feed.
-use Rattle.std.proofs.Common.{◌≡◌, ℕ, ◌+◌, ◌-◌, ◌<◌, ◌≤◌, ◌&&◌, eqb, leb, List, [], ◌∷◌, ◌++◌, length, get_or, take, None, sym, ap, ◌∙◌, arith}
+use Rattle.std.proofs.Common.{◌≡◌, ℕ, ◌+◌, ◌-◌, ◌<◌, ◌≤◌, List, [], ◌∷◌, ◌++◌, length, get_or, take, sym, ap, ◌∙◌, arith}
 use Rattle.std.proofs.lemmas.List.{length_push, take_more, take_all, take_at, get_or_at}
-use Rattle.std.proofs.lemmas.Bool.{cond-true, cond-false, and_left, and_from, eq-eqb, ne_eqb, le-leb}
+use Rattle.std.proofs.lemmas.Bool.{cond-true, and_from, eq-eqb, le-leb}
 use Rattle.bench.specs.Characters.{line_feed}
 use Rattle.bench.specs.Limits.{max_line}
 use Rattle.bench.specs.Lines.{body_read, line_read}
@@ -10,11 +10,6 @@ use Rattle.bench.specs.Lines.{body_read, line_read}
 not_empty : (text : List ℕ) → get_or text (length text - 1) 0 ≡ line_feed → 0 < length text
 not_empty [] feed = absurd (omega arith)
 not_empty (c ∷ more) feed = omega arith
-
-pub not_ended : (text : List ℕ) → (0 < length text → get_or text (length text - 1) 0 ≡ line_feed → ⊥) → line_read text ≡ None
-not_ended text no-feed =
-    let last = get_or text (length text - 1) 0 in
-    cond-false (eqb last line_feed && leb (length text - 1) max_line) _ _ (and_left (eqb last line_feed) _ (ne_eqb last line_feed (λ feed. no-feed (not_empty text feed) feed)))
 
 -- the text is its body and the line feed
 pub ended : (text : List ℕ) → get_or text (length text - 1) 0 ≡ line_feed → take (length text - 1) text ++ line_feed ∷ [] ≡ text

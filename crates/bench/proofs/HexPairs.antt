@@ -1,5 +1,8 @@
 -- Two digits write a byte, and only these two do.
-use Rattle.std.proofs.Common.{◌≡◌, ℕ, ◌+◌, ◌*◌, ◌/◌, ◌%◌, ◌<◌, [], ◌∷◌, Some, ap, ◌∙◌, arith}
+use Rattle.std.proofs.Common.{◌≡◌, ℕ, ◌+◌, ◌-◌, ◌*◌, ◌/◌, ◌%◌, ◌^◌, ◌<◌, true, false, List, [], ◌∷◌, Some, Option, ap, ◌∙◌, arith}
+use Rattle.std.specs.Fmt.{digits, padded_integral, format_spec}
+use Rattle.std.specs.Option.{option_map}
+use Rattle.std.proofs.lemmas.Fmt.{hex_byte}
 use Rattle.std.proofs.lemmas.Bool.Decides.{nat_tests}
 use Rattle.bench.specs.Hex.{hex_digit, hex_pair, hex_value, both, pair_value}
 use Rattle.bench.proofs.Options.{both_some}
@@ -25,3 +28,8 @@ pair_back b small =
   where
     whole : 16 * (b / 16) + b % 16 ≡ b
     whole = omega arith
+
+-- what a hole `{:02X}` writes of a byte is its pair
+pub pair_shown : (b : ℕ) (o : Option (List ℕ)) → b < 256 → o ≡ Some (digits 16 true b)
+    → option_map (padded_integral (format_spec 32 0 4 2 (2 ^ 64 - 1)) false []) o ≡ Some (hex_pair b)
+pair_shown b o small is = ap (option_map (padded_integral (format_spec 32 0 4 2 (2 ^ 64 - 1)) false [])) is ∙ ap (λ l. Some l) (hex_byte true b small)

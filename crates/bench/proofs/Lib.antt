@@ -1,5 +1,4 @@
 mod Options
-mod Rests
 mod Ends
 mod HexPairs
 mod Pairs

@@ -8,9 +8,10 @@ use Rattle.std.proofs.lemmas.Fmt.{decimal_digit, decimal_nonempty, first_decimal
 use Rattle.std.proofs.lemmas.Str.Parse.{IsNumeralModel, numerals_by_value, tells_all_ascii_digits, parse_plain}
 use Rattle.std.proofs.lemmas.Bool.{false≢true, and_parts, and_from, cases_lt, eqb-false, ne_eqb, not-true, not_from_false, ltb-true, lt-ltb, cond-true}
 use Rattle.std.proofs.lemmas.Str.{IsUtf8-from_ascii}
+use Rattle.std.proofs.lemmas.Option.{same_Some}
 use Rattle.bench.specs.Characters.{digit_zero}
 use Rattle.bench.specs.Numbers.{unpadded, number_read}
-use Rattle.bench.proofs.Options.{passed, failed, same_some}
+use Rattle.bench.proofs.Options.{passed, failed}
 
 own : IsNumeralModel (λ ds. all_ascii_digits ds ≡ true) (digits_value 10)
 own = numerals_by_value _ tells_all_ascii_digits
@@ -47,7 +48,7 @@ pub number_exact : (ds : List ℕ) (n : ℕ) → number_read ds ≡ Some n → (
 number_exact ds n e =
     let p = passed _ (Some (digits_value 10 ds)) n e in
     let h = tested ds p.0 in
-    let same : digits_value 10 ds ≡ n = same_some _ _ p.1 in
+    let same : digits_value 10 ds ≡ n = same_Some _ _ p.1 in
     let u = unpadded_parts ds h.plain in
     (subst (λ m. m < 2 ^ 32) same h.small, ap decimal (sym same) ∙ decimal-digits_value own ds h.digits u.0 u.1 (omega (arith, h.small)))
 

@@ -34,9 +34,14 @@ both f None o = None
 abbrev pub pair_value : ℕ → ℕ → Option ℕ
 pair_value high low = both (λ h l. 16 * h + l) (hex_value high) (hex_value low)
 
+-- the byte that a space and two characters write
+abbrev pub spaced_value : List ℕ → Option ℕ
+spaced_value (s ∷ high ∷ low ∷ []) = cond (s == space) (pair_value high low) None
+spaced_value other = None
+
 -- the bytes of a row
 unfoldable pub pairs_read : List ℕ → Option (List ℕ)
 pairs_read [] = Some []
 pairs_read (s ∷ []) = None
 pairs_read (s ∷ high ∷ []) = None
-pairs_read (s ∷ high ∷ low ∷ more) = cond (s == space) (both (λ b bs. b ∷ bs) (pair_value high low) (pairs_read more)) None
+pairs_read (s ∷ high ∷ low ∷ more) = both (λ b bs. b ∷ bs) (spaced_value (s ∷ high ∷ low ∷ [])) (pairs_read more)

@@ -5,8 +5,9 @@ ghost use Rattle.bench.specs.Reading.{ReadsAs, ReadsExactly};
 ghost use Rattle.bench.specs.Values.{value_of};
 ghost use Rattle.bench.specs.declared.line.NotRead.TheVariants.{Refused, NoMemory};
 
+use crate::MAX_LINE;
 use crate::hex::Pairs;
-use crate::reading;
+use crate::reading::{BAD_LINE, read_body};
 use frame::faults::LineFault;
 use refusals::Refusal;
 use std::alloc::{AllocError, Global};
@@ -29,7 +30,10 @@ impl Line {
         ensures value { ReadsAs (line_read text.now) result }
         ensures exact { ReadsExactly text.now }
     {
-        reading::read_line(heap, text)
+        match text {
+            [body @ .., b'\n'] if body.len() <= MAX_LINE => read_body(heap, body),
+            _ => Err(BAD_LINE),
+        }
     }
 }
 

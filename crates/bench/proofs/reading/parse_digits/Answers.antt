@@ -1,12 +1,13 @@
-use Rattle.std.proofs.Common.{sym, ◌∙◌, subst}
+use Rattle.std.proofs.Common.{◌≡◌, ◌∙◌, subst, rules}
 use Rattle.std.specs.Str.Parse.{ParsesUnsigned}
 use Rattle.bench.proofs.Numbers.{not_text, parsed}
 use Rattle.bench.proofs.reading.parse_digits.Goals as goal
 
-pub returns-in_default : goal.returns-in_default
-returns-in_default c = sym (not_text c.args.digits.now c.in_default.ensures.cases.0)
+pub returns-in_err-ok : goal.returns-in_err-ok
+returns-in_err-ok c = search (rules, not_text)
 
 pub returns : goal.returns
 returns c =
-    let reads = subst (λ bs. ParsesUnsigned 32 10 bs c.parse.result) c.in-Ok.ensures.cases.0 c.parse.ensures.value.0 in
-    c.ok.ensures.value ∙ parsed c.args.digits.now c.parse.result c.requires reads
+    let text : c.in_ok-ok.field-0.now ≡ c.args.digits.now = search rules in
+    let reads = subst (λ bs. ParsesUnsigned 32 10 bs c.parse.result) text c.parse.ensures.value.0 in
+    c.ok-2.ensures.value ∙ parsed c.args.digits.now c.parse.result c.requires reads

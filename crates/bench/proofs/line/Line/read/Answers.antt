@@ -1,5 +1,8 @@
 use Rattle.bench.proofs.Exact.{reads_exactly}
 use Rattle.bench.proofs.line.Line.read.Goals as goal
 
-pub returns : goal.returns
-returns c = record { value = c.read_line.ensures; exact = reads_exactly c.args.text.now }
+pub returns-in-10-clause-exact : goal.returns-in-10-clause-exact
+returns-in-10-clause-exact c = reads_exactly c.args.text.now
+
+pub returns-in_default-clause-exact : goal.returns-in_default-clause-exact
+returns-in_default-clause-exact c = reads_exactly c.args.text.now
