@@ -1,16 +1,20 @@
 -- Bytes by memory and offset.
 use Rattle.std.proofs.Common.{◌≡◌, ℕ, zero, suc, ◌+◌, ◌<◌, List, [], ◌∷◌, ◌++◌, length, get_or, Some, sym, refl, ap, ◌∙◌, arith}
-use Rattle.std.specs.List.{slice_get}
+use Rattle.std.specs.List.{slice_get, All}
 use Rattle.std.specs.Option.{option_map}
+use Rattle.std.proofs.lemmas.List.Elements.{All-nil, All-from_recursion}
 use Rattle.device.specs.Places.{map_at}
 use Rattle.device.specs.Meaning.{Meaning, Cell}
 use Rattle.device.specs.Lookup.{cell_at}
 use Rattle.device.specs.Changes.{each_byte}
-use Rattle.device.specs.Laws.{MemoryFits}
+use Rattle.device.specs.Laws.{MemoryFits, CellFits}
 
 -- a memory with no bytes
 pub no_bytes : MemoryFits []
-no_bytes = record { size = omega arith; each = tt }
+no_bytes = record { size = omega arith; each = All-nil CellFits }
+
+pub all_four : {a b c d : List Cell} → MemoryFits a → MemoryFits b → MemoryFits c → MemoryFits d → All MemoryFits (a ∷ b ∷ c ∷ d ∷ [])
+all_four {a} {b} {c} {d} fa fb fc fd = All-from_recursion MemoryFits (a ∷ b ∷ c ∷ d ∷ []) (fa, (fb, (fc, (fd, tt))))
 
 -- ---- lists of two parts
 

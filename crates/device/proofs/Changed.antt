@@ -3,7 +3,7 @@ use Rattle.std.proofs.Common.{◌≡◌, ℕ, Bool, true, false, cond, ◌&&◌,
 use Rattle.std.specs.Option.{option_map}
 use Rattle.device.specs.declared.VariableKind.{VariableKind}
 use Rattle.device.specs.Meaning.{Meaning, Variable, Cell}
-use Rattle.device.specs.Lookup.{variable_at, cell_at, there}
+use Rattle.device.specs.Lookup.{is_at, variable_at, cell_at, there}
 use Rattle.device.specs.Changes.{accepts, takes, same_kind, changed, holding, change, can_store, holding_byte, written, write}
 use Rattle.device.proofs.Found.{find_map, there_mapped}
 use Rattle.device.proofs.Bytes.{cell_each}
@@ -16,7 +16,7 @@ changed_keeps look blind k a v x =
     elim (same_kind k x.kind && eqb x.address a) as (λ t. look (cond t (holding v x) x) ≡ look x) [ true ↦ blind v x | false ↦ refl ]
 
 pub variable_changed : (k : VariableKind) (m : Meaning) (a v b : ℕ) → variable_at (change k m a v) b ≡ option_map (changed k a v) (variable_at m b)
-variable_changed k m a v b = find_map (changed k a v) (changed_keeps (λ x. x.address) (λ _ _. refl) k a v) b m.variables
+variable_changed k m a v b = find_map (is_at b) (changed k a v) (changed_keeps (is_at b) (λ _ _. refl) k a v) m.variables
 
 pub accepts_changed : (k l : VariableKind) (m : Meaning) (a v b w : ℕ) → accepts k (change l m a v) b w ≡ accepts k m b w
 accepts_changed k l m a v b w =

@@ -1,5 +1,6 @@
 -- Several settings at once: all the changes in order, so that of a repeated address the last counts, or none of them.
-use Rattle.std.specs.Prelude.{Bool, true, cond, ◌&&◌, List, [], ◌∷◌}
+use Rattle.std.specs.Prelude.{Bool, cond, List, fold}
+use Rattle.std.specs.List.{list_all}
 use Rattle.device.specs.declared.VariableKind.TheVariants.{Setting}
 use Rattle.device.specs.declared.assignments.Assignment.{Assignment}
 use Rattle.device.specs.Meaning.{Meaning}
@@ -7,18 +8,15 @@ use Rattle.device.specs.Changes.{accepts, change, offered}
 
 -- every value would be accepted
 abbrev pub accepts_all : Meaning → List Assignment → Bool
-accepts_all m [] = true
-accepts_all m (p ∷ ps) = accepts Setting m p.address p.value && accepts_all m ps
+accepts_all m ps = list_all (λ p. accepts Setting m p.address p.value) ps
 
 -- every change made, in order
 abbrev pub change_all : Meaning → List Assignment → Meaning
-change_all m [] = m
-change_all m (p ∷ ps) = change_all (change Setting m p.address p.value) ps
+change_all m ps = fold (λ n p. change Setting n p.address p.value) m ps
 
 -- every value offered, in order
 abbrev pub offered_all : Meaning → List Assignment → Meaning
-offered_all m [] = m
-offered_all m (p ∷ ps) = offered_all (offered Setting m p.address p.value) ps
+offered_all m ps = fold (λ n p. offered Setting n p.address p.value) m ps
 
 -- all the changes made if all are accepted, else none
 abbrev pub assigned : Meaning → List Assignment → Meaning

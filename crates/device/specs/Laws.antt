@@ -1,6 +1,5 @@
 -- What holds of every device, whatever it holds.
-use Rattle.std.specs.Prelude.{◌≡◌, ℕ, ◌+◌, ◌<◌, ◌≤◌, List, [], ◌∷◌, length}
-use Rattle.std.specs.List.{AllByRecursion}
+use Rattle.std.specs.Prelude.{◌≡◌, ℕ, ◌+◌, ◌<◌, ◌≤◌, List, [], ◌∷◌, length, All}
 use Rattle.device.specs.Limits.{max_width, memory_count, max_memory, max_identity, option_bound, address_bound, value_bound, byte_bound, estimate_bound}
 use Rattle.device.specs.Meaning.{Meaning, Variable, Cell}
 
@@ -22,15 +21,15 @@ pub record CellFits (c : Cell) : Type 0 where
 
 pub record MemoryFits (cells : List Cell) : Type 0 where
   pub size : length cells ≤ max_memory
-  pub each : AllByRecursion CellFits cells
+  pub each : All CellFits cells
 
 pub record WellFormed (m : Meaning) : Type 0 where
   pub ascending : Ascending 0 m.variables
-  pub variables : AllByRecursion VariableFits m.variables
+  pub variables : All VariableFits m.variables
   pub four : length m.memories ≡ memory_count
-  pub memories : AllByRecursion MemoryFits m.memories
+  pub memories : All MemoryFits m.memories
   pub identity_size : length m.identity ≤ max_identity
-  pub identity : AllByRecursion (λ b. b < byte_bound) m.identity
+  pub identity : All (λ b. b < byte_bound) m.identity
   pub option : m.option < option_bound
   pub implementation : m.implementation < byte_bound
   pub estimate : m.estimate < estimate_bound

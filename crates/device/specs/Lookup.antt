@@ -1,16 +1,15 @@
 -- What is where: the variable at an address, and the byte of a memory at an offset, or that there is none.
-use Rattle.std.specs.Prelude.{ℕ, Bool, false, cond, List, [], ◌∷◌, Some, None, Option, ◌==◌, slice_index_or}
+use Rattle.std.specs.Prelude.{ℕ, Bool, false, [], Some, None, Option, ◌==◌, slice_index_or, find}
 use Rattle.std.specs.List.{slice_get}
 use Rattle.device.specs.Meaning.{Meaning, Variable, Cell}
 
--- the first of some variables that is at address a
-abbrev pub find : ℕ → List Variable → Option Variable
-find a [] = None
-find a (x ∷ xs) = cond (x.address == a) (Some x) (find a xs)
+-- a variable is at address a
+abbrev pub is_at : ℕ → Variable → Bool
+is_at a x = x.address == a
 
 -- the variable at address a
 abbrev pub variable_at : Meaning → ℕ → Option Variable
-variable_at m a = find a m.variables
+variable_at m a = find (is_at a) m.variables
 
 -- byte i of memory n
 abbrev pub cell_at : Meaning → ℕ → ℕ → Option Cell

@@ -1,7 +1,5 @@
 //! Several settings at once, on any device.
 ghost use Rattle.std.specs.Prelude.{◌≡◌};
-ghost use Rattle.device.specs.declared.VariableKind.TheVariants.{Setting};
-ghost use Rattle.device.specs.Changes.{accepts, offered};
 ghost use Rattle.device.specs.Assignments.{accepts_all, offered_all, assigned};
 
 use crate::Device;
@@ -13,32 +11,13 @@ pub struct Assignment {
     pub value: u32,
 }
 
-impl Assignment {
-    /// Whether the device would accept it.
-    fn is_accepted<D: Device>(self, device: &D) -> bool
-        ensures { result ≡ accepts Setting (D.means device.now) self.address self.value }
-    {
-        device.can_set(self.address, self.value)
-    }
-
-    /// Offers it to the device.
-    fn offer<D: Device>(self, device: &mut D)
-        ensures { D.means device.new ≡ offered Setting (D.means device.old) self.address self.value }
-    {
-        let _ = device.set(self.address, self.value);
-    }
-}
-
 /// Whether the device would accept every assignment.
 pub fn can_set_all<D: Device>(device: &D, assignments: &[Assignment]) -> bool
     ensures { result ≡ accepts_all (D.means device.now) assignments.now }
 {
-    for a in assignments {
-        if !a.is_accepted(device) {
-            return false;
-        }
-    }
-    true
+    assignments
+        .iter()
+        .all(|a| device.can_set(a.address, a.value))
 }
 
 /// Offers each assignment in turn.
@@ -46,11 +25,12 @@ fn offer_each<D: Device>(device: &mut D, assignments: &[Assignment])
     ensures { D.means device.new ≡ offered_all (D.means device.old) assignments.now }
 {
     for a in assignments {
-        a.offer(device);
+        let _ = device.set(a.address, a.value);
     }
 }
 
 /// Makes all the assignments, in order, or none of them where the device would refuse one.
+#[tactic(auto, using(crate::proofs::Several::all_assigned))]
 pub fn set_all<D: Device>(device: &mut D, assignments: &[Assignment]) -> bool
     ensures answer { result ≡ accepts_all (D.means device.old) assignments.now }
     ensures after { D.means device.new ≡ assigned (D.means device.old) assignments.now }

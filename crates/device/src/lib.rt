@@ -21,7 +21,7 @@ pub const MAX_WIDTH: u8 = 32;
 pub const MAX_MEMORY: usize = 65536;
 
 /// Who may change a variable: a request changes a setting, and the device itself tells new values of a reading.
-#[derive(Clone, Copy)]
+#[derive(Clone, Copy, PartialEq, Eq)]
 pub enum VariableKind {
     Setting,
     Reading,
@@ -36,24 +36,13 @@ pub struct VariableState {
 }
 
 impl VariableState {
-    /// Of a setting.
-    pub fn setting(width: u8, present: u32) -> VariableState
-        ensures { result ≡ record { width = width; kind = Setting; present = present } }
+    /// Of a variable of a kind.
+    pub fn new(kind: VariableKind, width: u8, present: u32) -> VariableState
+        ensures { result ≡ record { width = width; kind = kind; present = present } }
     {
         VariableState {
             width,
-            kind: VariableKind::Setting,
-            present,
-        }
-    }
-
-    /// Of a reading.
-    pub fn reading(width: u8, present: u32) -> VariableState
-        ensures { result ≡ record { width = width; kind = Reading; present = present } }
-    {
-        VariableState {
-            width,
-            kind: VariableKind::Reading,
+            kind,
             present,
         }
     }
@@ -108,13 +97,9 @@ pub trait Device {
     fn can_set(&self, address: u16, value: u32) -> bool
         ensures { result ≡ accepts Setting (means self.now) address value }
     {
-        let Some(variable) = self.variable(address) else {
-            return false;
-        };
-        match variable.kind {
-            VariableKind::Setting => widths::fits(value, variable.width),
-            VariableKind::Reading => false,
-        }
+        self.variable(address).is_some_and(|variable| {
+            variable.kind == VariableKind::Setting && widths::fits(value, variable.width)
+        })
     }
 
     /// Takes a new value of the reading at `address`: accepted exactly where there is one and the value is below 2 to its width.

@@ -7,8 +7,5 @@ use crate::MAX_WIDTH;
 pub fn fits(value: u32, width: u8) -> bool
     ensures { result ≡ nat_lt value (2 ^ width) }
 {
-    if width >= MAX_WIDTH {
-        return true;
-    }
-    value < 1 << width
+    width >= MAX_WIDTH || value < 1 << width
 }

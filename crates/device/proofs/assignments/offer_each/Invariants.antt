@@ -1,9 +1,9 @@
-use Rattle.std.proofs.Common.{◌≡◌, drop}
+use Rattle.std.proofs.Common.{◌≡◌, take}
 use Rattle.device.specs.Assignments.{offered_all}
 use Rattle.device.proofs.assignments.offer_each.Given as goal
 
--- what is left leads to the end
+-- what was offered so far
 abbrev pub invariant-loop-a : goal.invariant-loop-a
 invariant-loop-a g l =
     let means = g.D.Device.means in
-    offered_all (means l.device) (drop l.a-index l.assignments) ≡ offered_all (means l.initial.device) l.assignments
+    means l.device ≡ offered_all (means l.initial.device) (take l.a-index l.assignments)
