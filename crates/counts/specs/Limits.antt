@@ -1,4 +1,4 @@
--- The numbers of the monitoring counts. The code's constants COUNTS and MAX_COUNT are these numbers.
+-- The numbers of the monitoring counts. The code's constant COUNTS is the first of these.
 use Rattle.std.specs.Prelude.{ℕ}
 
 -- how many counts there are: their addresses are those below

@@ -1,6 +1,5 @@
 //! The counts.
-ghost use Rattle.std.specs.Prelude.{◌≡◌, length};
-ghost use Rattle.counts.specs.Limits.{count_of_counts};
+use std::marker::Model;
 
 pub mod counting;
 
@@ -11,5 +10,17 @@ pub const COUNTS: usize = 9;
 #[derive(Clone, Copy)]
 pub struct Counts {
     values: [u32; COUNTS],
-    ghost nine: { length values ≡ count_of_counts },
+}
+
+impl Model for Counts {
+    ghost use Rattle.std.specs.Prelude.{◌≡◌, ℕ, List, length};
+    ghost use Rattle.counts.specs.Limits.{count_of_counts};
+
+    ghost Value = { List ℕ };
+
+    ghost view = { λ c. c.values };
+
+    ghost invariant = { λ c. length c.values ≡ count_of_counts };
+
+    ghost inverse = { λ values. record { values = values } };
 }

@@ -1,6 +1,7 @@
 //! Reading, putting and counting.
-ghost use Rattle.std.specs.Prelude.{◌≡◌, slice_set};
+ghost use Rattle.std.specs.Prelude.{◌≡◌, length, slice_set};
 ghost use Rattle.std.specs.List.{slice_get};
+ghost use Rattle.counts.specs.Limits.{count_of_counts};
 ghost use Rattle.counts.specs.Counting.{no_counts, one_more, counted, count_of as place_of, cause_counted, fault_counted};
 ghost use Rattle.counts.specs.Putting.{counts_there, counts_put, put_left};
 
@@ -9,17 +10,11 @@ use device::assignments::Assignment;
 use frame::faults::LineFault;
 use packet::causes::DropCause;
 
-/// The largest signed number of 32 bits, where counting stops.
-const MAX_COUNT: u32 = 2_147_483_647;
-
 /// One more than a count; the largest number stays, and a negative one goes on counting up.
 fn one_more(count: u32) -> u32
     ensures { result ≡ one_more count }
 {
-    if count == MAX_COUNT {
-        return count;
-    }
-    count.wrapping_add(1)
+    count.cast_signed().saturating_add(1).cast_unsigned()
 }
 
 /// The address of the count that a dropped segment adds to, if it adds to one.
@@ -44,18 +39,13 @@ fn count_of(cause: DropCause) -> Option<usize>
 fn all_there(assignments: &[Assignment]) -> bool
     ensures { result ≡ counts_there assignments.now }
 {
-    for a in assignments {
-        if a.address as usize >= COUNTS {
-            return false;
-        }
-    }
-    true
+    assignments.iter().all(|a| usize::from(a.address) < COUNTS)
 }
 
 impl Counts {
     /// At power-up: all are 0.
     pub fn new() -> Counts
-        ensures { result.values ≡ no_counts }
+        ensures { result ≡ no_counts }
     {
         Counts {
             values: [0; COUNTS],
@@ -64,37 +54,33 @@ impl Counts {
 
     /// The count at an address, if there is one.
     pub fn value(&self, address: u16) -> Option<u32>
-        ensures { result ≡ slice_get self.now.values address }
+        ensures held { result ≡ slice_get self.now address }
+        ensures nine { length self.now ≡ count_of_counts }
     {
-        if address as usize >= COUNTS {
-            return None;
-        }
-        Some(self.values[address as usize])
+        self.values.get(usize::from(address)).copied()
     }
 
-    /// Sets the count at an address, if there is one.
+    /// Sets the count at an address, if there is one. Behind an array's `get_mut` no element would be known to a proof.
     fn set(&mut self, address: usize, value: u32)
-        ensures { self.new.values ≡ slice_set self.old.values address value }
+        ensures { self.new ≡ slice_set self.old address value }
     {
-        if address >= COUNTS {
-            return;
+        if address < COUNTS {
+            self.values[address] = value;
         }
-        self.values[address] = value;
     }
 
     /// One more of the count at an address, if there is one.
     fn add_one(&mut self, address: usize)
-        ensures { self.new.values ≡ counted address self.old.values }
+        ensures { self.new ≡ counted address self.old }
     {
-        if address >= COUNTS {
-            return;
+        if let Some(&count) = self.values.get(address) {
+            self.values[address] = one_more(count);
         }
-        self.values[address] = one_more(self.values[address]);
     }
 
     /// Counts a dropped segment.
     pub fn count_drop(&mut self, cause: DropCause)
-        ensures { self.new.values ≡ cause_counted cause self.old.values }
+        ensures { self.new ≡ cause_counted cause self.old }
     {
         if let Some(address) = count_of(cause) {
             self.add_one(address);
@@ -103,24 +89,24 @@ impl Counts {
 
     /// Counts a line fault.
     pub fn count_fault(&mut self, fault: LineFault)
-        ensures { self.new.values ≡ fault_counted fault self.old.values }
+        ensures { self.new ≡ fault_counted fault self.old }
     {
         self.add_one(fault.number() as usize);
     }
 
     /// Sets each count in turn.
     fn set_each(&mut self, assignments: &[Assignment])
-        ensures { self.new.values ≡ counts_put assignments.now self.old.values }
+        ensures { self.new ≡ counts_put assignments.now self.old }
     {
         for a in assignments {
-            self.set(a.address as usize, a.value);
+            self.set(usize::from(a.address), a.value);
         }
     }
 
     /// Gives counts other values, all of them in order, or none where an address is no count's; tells which.
     pub fn put_all(&mut self, assignments: &[Assignment]) -> bool
         ensures told { result ≡ counts_there assignments.now }
-        ensures after { self.new.values ≡ put_left assignments.now self.old.values }
+        ensures after { self.new ≡ put_left assignments.now self.old }
     {
         if !all_there(assignments) {
             return false;
