@@ -49,7 +49,7 @@ impl fmt::Display for Line {
                 writeln!(f, "L{pairs}")
             }
             Line::Step(step) => writeln!(f, "T {step}"),
-            Line::Fault(fault) => writeln!(f, "F {}", fault.number()),
+            Line::Fault(fault) => writeln!(f, "F {}", u8::from(*fault)),
         }
     }
 }

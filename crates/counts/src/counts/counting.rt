@@ -91,7 +91,7 @@ impl Counts {
     pub fn count_fault(&mut self, fault: LineFault)
         ensures { self.new ≡ fault_counted fault self.old }
     {
-        self.add_one(fault.number() as usize);
+        self.add_one(usize::from(u8::from(fault)));
     }
 
     /// Sets each count in turn.
