@@ -66,8 +66,8 @@ gathered_more (Some c) (Some n) memory u room g =
     ⊎_elim
     (λ less. rw (is, lt-ltb (length u) max_packet less) (gathered_one c memory u room less (subst (λ (k : ℕ). take k memory ≡ take max_packet u) is g.front)))
     (λ full.
-    let n128 : n ≡ max_packet = omega arith in
-    rw n128 (gathered_full c memory u full (subst (λ (k : ℕ). take k memory ≡ take max_packet u) n128 g.front)))
+    let top : n ≡ max_packet = omega arith in
+    rw top (gathered_full c memory u full (subst (λ (k : ℕ). take k memory ≡ take max_packet u) top g.front)))
     (cases_lt (length u) max_packet))
     (cases_lt max_packet (length u))
 

@@ -20,6 +20,7 @@ fn escaped_len(byte: u8) -> usize
 fn outgrows(packet: &[u8], room: usize) -> bool
     ensures { result ≡ nat_lt room (length (framed packet.now)) }
 {
+    // The flags are taken off the room, since a frame may be too long for a usize, and the bytes inside are not.
     let inside: usize = packet.iter().map(|byte| escaped_len(*byte)).sum();
     room < 2 || room - 2 < inside
 }
@@ -39,7 +40,6 @@ fn put_escaped(cursor: &mut Cursor<'_>, byte: u8) -> Result<(), Refusal>
 
 /// Writes the frame of a packet at the front of `out`, and tells the frame's length. A buffer that is shorter than the frame
 /// is refused. What stands between the frame's two flags can be unescaped to the packet again.
-#[tactic(auto, using(crate::proofs::Escaped::reads_back))]
 pub fn write_frame(packet: &[u8], out: &mut [u8]) -> Result<usize, Refusal>
     ensures told { result ≡ frame_answer packet.now (length out.old) }
     ensures written { out.new ≡ frame_left packet.now out.old }
