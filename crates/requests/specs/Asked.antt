@@ -4,15 +4,16 @@ use Rattle.array_vec.specs.Held.{held}
 use Rattle.requests.specs.Requests as means
 use Rattle.requests.specs.declared.naks.Nak.{Nak}
 use Rattle.requests.specs.declared.request.Request.{Request}
-use Rattle.requests.specs.declared.request.Request.TheVariants.{Ping, Init, Get, GetCounts, Put, PutCounts, Read, Write, Identify, Fragment, AddRoutes, DeleteRoutes, ListRoutes}
+use Rattle.requests.specs.declared.request.Space.TheVariants.{Device, Counts}
+use Rattle.requests.specs.declared.request.Request.TheVariants.{Ping, Init, Get, Put, Read, Write, Identify, Fragment, AddRoutes, DeleteRoutes, ListRoutes}
 
 abbrev pub asked : Request → means.Request
 asked Ping = means.asks means.ping
 asked Init = means.does means.init
-asked (Get addresses) = means.asks (means.get (held addresses))
-asked (GetCounts addresses) = means.asks (means.get_counts (held addresses))
-asked (Put assignments) = means.does (means.put (held assignments))
-asked (PutCounts assignments) = means.does (means.put_counts (held assignments))
+asked (Get Device addresses) = means.asks (means.get (held addresses))
+asked (Get Counts addresses) = means.asks (means.get_counts (held addresses))
+asked (Put Device assignments) = means.does (means.put (held assignments))
+asked (Put Counts assignments) = means.does (means.put_counts (held assignments))
 asked (Read memory start count) = means.asks (means.read memory start count)
 asked (Write memory start bytes) = means.does (means.write memory start bytes.now)
 asked Identify = means.asks means.identify

@@ -78,8 +78,11 @@ id_parsed s xs =
     cond (s == 0 && length xs == 0) (Ok (asks identify)) (cond (s == 1 && length xs == 1) (Ok (asks (fragment (slice_index xs 0)))) incorrect)
 
 -- ADDRT and DELRT: entries of eight bytes, with supplement 0
+abbrev pub entries_with : ℕ → List ℕ → Option (List Entry)
+entries_with s xs = cond (s == 0) (items max_entries 8 entry_in xs) None
+
 abbrev pub routes_parsed : ℕ → (List Entry → Request) → List ℕ → Result Request Nak
-routes_parsed s make xs = cond (s == 0) (with_items make (items max_entries 8 entry_in xs)) incorrect
+routes_parsed s make xs = with_items make (entries_with s xs)
 
 unfoldable pub parsed : PacketType → ℕ → List ℕ → Result Request Nak
 parsed Ping s xs = dataless s xs (asks ping)

@@ -1,18 +1,15 @@
 //! Reading requests.
-ghost use Rattle.std.specs.Prelude.{◌≡◌};
+ghost use Rattle.std.specs.Prelude.{◌≡◌, IfErr};
+ghost use Rattle.std.specs.Option.{option_map};
+ghost use Rattle.std.specs.Result.{result_ok};
 ghost use Rattle.packet.specs.Types.{ss as supplement_of, pktype as type_bits, type_named};
-ghost use Rattle.routes.specs.Entries.{entry_in};
+ghost use Rattle.array_vec.specs.Held.{held};
 ghost use Rattle.requests.specs.Asked.{asked, asked_in};
-ghost use Rattle.requests.specs.Items.{items as items_in, address_in, assignment_in};
-ghost use Rattle.requests.specs.Limits.{max_get, max_put, max_entries};
-ghost use Rattle.requests.specs.Requests.{dataless as dataless_parsed, by_space, read_parsed, write_parsed, id_parsed, routes_parsed, parsed};
-ghost use Rattle.requests.specs.Requests.Request.{asks, does};
-ghost use Rattle.requests.specs.Requests.Query.{get, get_counts};
-ghost use Rattle.requests.specs.Requests.Change.{put, put_counts, add_routes, delete_routes};
+ghost use Rattle.requests.specs.Requests.{dataless as dataless_parsed, read_parsed, write_parsed, id_parsed, entries_with, parsed};
 
-use crate::items::{read_addresses, read_assignments, read_entries};
+use crate::items::{Entries, read_items};
 use crate::naks::Nak;
-use crate::request::Request;
+use crate::request::{Request, Space};
 use crate::{MAX_READ, MAX_WRITE};
 use packet::kinds::{Kind, PacketType};
 
@@ -20,39 +17,8 @@ use packet::kinds::{Kind, PacketType};
 fn dataless<'a>(ss: u8, content: &[u8], request: Request<'a>) -> Result<Request<'a>, Nak>
     ensures { asked_in result ≡ dataless_parsed ss content.now (asked request.entry) }
 {
-    if ss != 0 {
-        return Err(Nak::Incorrect);
-    }
-    if !content.is_empty() {
-        return Err(Nak::Incorrect);
-    }
-    Ok(request)
-}
-
-/// GET: the device is address space 0, and the counts are 1.
-fn get_request<'a>(ss: u8, content: &[u8]) -> Result<Request<'a>, Nak>
-    ensures { asked_in result ≡ by_space ss (λ ads. asks (get ads)) (λ ads. asks (get_counts ads)) (items_in max_get 2 address_in content.now) }
-{
-    let Some(addresses) = read_addresses(content) else {
-        return Err(Nak::Incorrect);
-    };
-    match ss {
-        0 => Ok(Request::Get(addresses)),
-        1 => Ok(Request::GetCounts(addresses)),
-        _ => Err(Nak::Incorrect),
-    }
-}
-
-/// PUT: the device is address space 0, and the counts are 1.
-fn put_request<'a>(ss: u8, content: &[u8]) -> Result<Request<'a>, Nak>
-    ensures { asked_in result ≡ by_space ss (λ ps. does (put ps)) (λ ps. does (put_counts ps)) (items_in max_put 6 assignment_in content.now) }
-{
-    let Some(assignments) = read_assignments(content) else {
-        return Err(Nak::Incorrect);
-    };
-    match ss {
-        0 => Ok(Request::Put(assignments)),
-        1 => Ok(Request::PutCounts(assignments)),
+    match (ss, content) {
+        (0, []) => Ok(request),
         _ => Err(Nak::Incorrect),
     }
 }
@@ -64,17 +30,13 @@ fn read_request<'a>(memory: u8, content: &[u8]) -> Result<Request<'a>, Nak>
     let [a0, a1, a2, a3, c0, c1] = content else {
         return Err(Nak::Incorrect);
     };
-    let start = u32::from_le_bytes([*a0, *a1, *a2, *a3]);
     let count = u16::from_le_bytes([*c0, *c1]);
-    if count == 0 {
-        return Err(Nak::Incorrect);
-    }
-    if count > MAX_READ {
+    if count == 0 || count > MAX_READ {
         return Err(Nak::Incorrect);
     }
     Ok(Request::Read {
         memory,
-        start,
+        start: u32::from_le_bytes([*a0, *a1, *a2, *a3]),
         count,
     })
 }
@@ -83,19 +45,13 @@ fn read_request<'a>(memory: u8, content: &[u8]) -> Result<Request<'a>, Nak>
 fn write_request<'a>(memory: u8, content: &'a [u8]) -> Result<Request<'a>, Nak>
     ensures { asked_in result ≡ write_parsed memory content.now }
 {
-    let [a0, a1, a2, a3, bytes @ ..] = content else {
-        return Err(Nak::Incorrect);
-    };
-    if bytes.is_empty() {
+    let (start, bytes) = content.split_first_chunk().ok_or(Nak::Incorrect)?;
+    if bytes.is_empty() || bytes.len() > MAX_WRITE {
         return Err(Nak::Incorrect);
     }
-    if bytes.len() > MAX_WRITE {
-        return Err(Nak::Incorrect);
-    }
-    let start = u32::from_le_bytes([*a0, *a1, *a2, *a3]);
     Ok(Request::Write {
         memory,
-        start,
+        start: u32::from_le_bytes(*start),
         bytes,
     })
 }
@@ -111,30 +67,15 @@ fn id_request<'a>(ss: u8, content: &[u8]) -> Result<Request<'a>, Nak>
     }
 }
 
-/// ADDRT has entries and supplement 0.
-fn add_request<'a>(ss: u8, content: &[u8]) -> Result<Request<'a>, Nak>
-    ensures { asked_in result ≡ routes_parsed ss (λ es. does (add_routes es)) content.now }
+/// The entries of an ADDRT or a DELRT, which has supplement 0.
+fn read_entries(ss: u8, content: &[u8]) -> Result<Entries, Nak>
+    ensures entries { option_map held (result_ok result) ≡ entries_with ss content.now }
+    ensures incorrect { IfErr result (λ nak. nak ≡ Nak.Incorrect) }
 {
     if ss != 0 {
         return Err(Nak::Incorrect);
     }
-    match read_entries(content) {
-        Some(entries) => Ok(Request::AddRoutes(entries)),
-        None => Err(Nak::Incorrect),
-    }
-}
-
-/// DELRT has entries and supplement 0.
-fn delete_request<'a>(ss: u8, content: &[u8]) -> Result<Request<'a>, Nak>
-    ensures { asked_in result ≡ routes_parsed ss (λ es. does (delete_routes es)) content.now }
-{
-    if ss != 0 {
-        return Err(Nak::Incorrect);
-    }
-    match read_entries(content) {
-        Some(entries) => Ok(Request::DeleteRoutes(entries)),
-        None => Err(Nak::Incorrect),
-    }
+    read_items(content).ok_or(Nak::Incorrect)
 }
 
 impl<'a> Request<'a> {
@@ -147,13 +88,19 @@ impl<'a> Request<'a> {
         match kind.pktype() {
             PacketType::Ping => dataless(ss, content, Request::Ping),
             PacketType::Init => dataless(ss, content, Request::Init),
-            PacketType::Get => get_request(ss, content),
-            PacketType::Put => put_request(ss, content),
+            PacketType::Get => Ok(Request::Get(
+                Space::try_from(ss)?,
+                read_items(content).ok_or(Nak::Incorrect)?,
+            )),
+            PacketType::Put => Ok(Request::Put(
+                Space::try_from(ss)?,
+                read_items(content).ok_or(Nak::Incorrect)?,
+            )),
             PacketType::Read => read_request(ss, content),
             PacketType::Write => write_request(ss, content),
             PacketType::Id => id_request(ss, content),
-            PacketType::Addrt => add_request(ss, content),
-            PacketType::Delrt => delete_request(ss, content),
+            PacketType::Addrt => Ok(Request::AddRoutes(read_entries(ss, content)?)),
+            PacketType::Delrt => Ok(Request::DeleteRoutes(read_entries(ss, content)?)),
             PacketType::Getrt => dataless(ss, content, Request::ListRoutes),
             PacketType::Ack | PacketType::Nak | PacketType::Other(_) => Err(Nak::Unknown),
         }

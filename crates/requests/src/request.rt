@@ -1,5 +1,33 @@
 //! Requests.
+ghost use Rattle.std.specs.Prelude.{◌≡◌};
+ghost use Rattle.requests.specs.Spaces.{space_named};
+
 use crate::items::{Addresses, Assignments, Entries};
+use crate::naks::Nak;
+
+/// The address space of a GET or a PUT. The numbers are those of the protocol.
+#[derive(Clone, Copy, PartialEq, Eq, Debug)]
+pub enum Space {
+    /// The device's variables.
+    Device = 0,
+    /// The monitoring counts.
+    Counts = 1,
+}
+
+/// The space that a supplement names.
+impl TryFrom<u8> for Space {
+    type Error = Nak;
+
+    ghost try_from_gives = { λ ss r. r ≡ space_named ss };
+
+    fn try_from(ss: u8) -> Result<Space, Nak> {
+        match ss {
+            0 => Ok(Space::Device),
+            1 => Ok(Space::Counts),
+            _ => Err(Nak::Incorrect),
+        }
+    }
+}
 
 /// What a valid packet asks a node for.
 #[derive(Drop)]
@@ -8,14 +36,10 @@ pub enum Request<'a> {
     Ping,
     /// Back to power-up.
     Init,
-    /// The values of variables.
-    Get(Addresses),
-    /// The values of monitoring counts.
-    GetCounts(Addresses),
-    /// New values of settings.
-    Put(Assignments),
-    /// New values of monitoring counts.
-    PutCounts(Assignments),
+    /// The values at addresses.
+    Get(Space, Addresses),
+    /// New values at addresses.
+    Put(Space, Assignments),
     /// Bytes of a memory.
     Read {
         memory: u8,
