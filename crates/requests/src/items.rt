@@ -20,7 +20,7 @@ pub type Assignments = ArrayVec<Assignment, MAX_PUT>;
 /// The entries of an ADDRT or a DELRT.
 pub type Entries = ArrayVec<Entry, MAX_ENTRIES>;
 
-/// What data are made of: items that are carried by so many bytes each.
+/// What data are made of: items that are carried by `SIZE` bytes each.
 pub trait Item<const SIZE: usize>: Copy {
     ghost item_in: { List ℕ → Self };
 
@@ -28,6 +28,7 @@ pub trait Item<const SIZE: usize>: Copy {
     fn from_bytes(bytes: [u8; SIZE]) -> Self
         ensures { result ≡ item_in bytes.entry };
 
+    // Data are cut by the size: so it is not 0, and no more than data have.
     ghost some: { 0 < SIZE };
 
     ghost few: { SIZE < 256 };
@@ -77,7 +78,7 @@ impl Item<ENTRY_SIZE> for Entry {
     fn from_bytes(bytes: [u8; ENTRY_SIZE]) -> Entry
         ensures { result ≡ entry_in bytes }
     {
-        Entry::from_bytes(bytes)
+        Entry::from(bytes)
     }
 }
 
@@ -91,6 +92,7 @@ pub fn read_items<T: Item<SIZE>, const SIZE: usize, const MOST: usize>(
     if !rest.is_empty() {
         return None;
     }
+    // The first item also fills the places that are not in use.
     let mut found = ArrayVec::new(T::from_bytes(*chunks.first()?));
     for chunk in chunks {
         found.push(T::from_bytes(*chunk)).ok()?;

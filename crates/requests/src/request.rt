@@ -5,13 +5,13 @@ ghost use Rattle.requests.specs.Spaces.{space_named};
 use crate::items::{Addresses, Assignments, Entries};
 use crate::naks::Nak;
 
-/// The address space of a GET or a PUT. The numbers are those of the protocol.
+/// The address space of a GET or a PUT.
 #[derive(Clone, Copy, PartialEq, Eq, Debug)]
 pub enum Space {
     /// The device's variables.
-    Device = 0,
+    Device,
     /// The monitoring counts.
-    Counts = 1,
+    Counts,
 }
 
 /// The space that a supplement names.

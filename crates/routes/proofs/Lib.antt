@@ -6,6 +6,4 @@ pub mod Placing
 pub mod Lawfulness
 pub mod Lookups
 pub mod Ageing
-pub mod Tables
-pub mod Rotations
 pub mod Several

@@ -13,7 +13,7 @@ before_trans a b c p q = grind (arith, nat_tests)
 pub before_apart : (a b : Route) → before a b ≡ true → same_subnet a b ≡ false
 before_apart a b p = grind (arith, nat_tests)
 
-pub before_other : (a b : Route) → is_mask a.mask ≡ true → is_mask b.mask ≡ true → same_subnet a b ≡ false → before a b ≡ false → before b a ≡ true
+pub before_other : (a b : Route) → is_mask a.subnet.mask ≡ true → is_mask b.subnet.mask ≡ true → same_subnet a b ≡ false → before a b ≡ false → before b a ≡ true
 before_other a b p q s t =
-    let same = same_mask a.mask b.mask p q in
+    let same = same_mask a.subnet.mask b.subnet.mask p q in
     grind (arith, nat_tests)

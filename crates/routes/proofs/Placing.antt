@@ -1,41 +1,30 @@
--- Where a new entry belongs, found from the front on.
-use Rattle.std.proofs.Common.{◌≡◌, ℕ, ◌+◌, ◌<◌, true, false, cond, List, [], ◌∷◌, ◌++◌, length, take, drop, sym, ap, ◌∙◌, append_assoc, arith}
-use Rattle.std.proofs.lemmas.List.{take_more, drop_more, drop_all, at_drop_more, at_drop_all}
-use Rattle.std.proofs.lemmas.Bool.{cond-true, cond-false}
-use Rattle.routes.specs.Start.{start_route}
+-- Where a new entry belongs: at the place of the first one that it stands before, or behind all.
+use Rattle.std.proofs.Common.{◌≡◌, ℕ, suc, ◌+◌, ◌≤◌, true, false, cond, not, ltb, List, [], ◌∷◌, length, Some, None, unwrap_or, sym, refl, ap, ◌∙◌, arith}
+use Rattle.std.specs.List.{insert, position, position_or_len}
+use Rattle.std.proofs.lemmas.List.Sums.{prefix_len-le-length}
+use Rattle.std.proofs.lemmas.Bool.{ltb-false}
 use Rattle.routes.specs.Order.{before}
 use Rattle.routes.specs.Insert.{placed}
-use Rattle.routes.specs.Places.{at_place, Belongs}
 use Rattle.routes.specs.declared.route.Route.{Route}
 
--- the first i entries stay in front of a new one
-abbrev pub Behind : Route → List Route → ℕ → Type 0
-Behind r rs i = placed r rs ≡ take i rs ++ placed r (drop i rs)
+placed_at : (r : Route) (rs : List Route) → placed r rs ≡ insert rs (position_or_len (before r) rs) r
+unfolding placed
+placed_at r [] = refl
+placed_at r (x ∷ xs) =
+    let i : ℕ = position_or_len (before r) xs in
+    let next : suc i ≡ 1 + i = omega arith in
+    let rest = ap (λ (ys : List Route). x ∷ ys) (placed_at r xs) ∙ ap (λ (n : ℕ). insert (x ∷ xs) n r) next in
+    elim (before r x) as (λ t. cond t (r ∷ x ∷ xs) (x ∷ placed r xs) ≡ insert (x ∷ xs) (cond (not t) (1 + i) 0) r) [ true ↦ refl | false ↦ rest ]
 
-module _ (r : Route) (rs : List Route) (i : ℕ) (behind : Behind r rs i) where
-  next : i < length rs → placed r (drop i rs) ≡ cond (before r (at_place rs i)) (r ∷ at_place rs i ∷ drop (i + 1) rs) (at_place rs i ∷ placed r (drop (i + 1) rs))
-  unfolding placed
-  next h = at_drop_more (placed r) rs i start_route h
+-- the place as it is looked for
+looked_for : (n l : ℕ) → n ≤ l → unwrap_or (cond (ltb n l) (Some n) None) l ≡ n
+looked_for n l h =
+    elim (ltb n l) as (λ t. ltb n l ≡ t → unwrap_or (cond t (Some n) None) l ≡ n) [
+      | true ↦ λ t. refl
+      | false ↦ λ t. let k = ltb-false n l t in omega arith
+    ] refl
 
-  pub belongs_here : i < length rs → before r (at_place rs i) ≡ true → Belongs r rs i
-  belongs_here h e = record {
-    within = omega arith;
-    is =
-        behind ∙ ap (λ (ys : List Route). take i rs ++ ys) (next h ∙ cond-true _ _ _ e)
-        ∙ ap (λ (ys : List Route). take i rs ++ r ∷ ys) (sym (drop_more rs i start_route h));
-  }
-
-  pub behind_more : i < length rs → before r (at_place rs i) ≡ false → Behind r rs (i + 1)
-  behind_more h e =
-      behind ∙ ap (λ (ys : List Route). take i rs ++ ys) (next h ∙ cond-false _ _ _ e)
-      ∙ sym (append_assoc (take i rs) (at_place rs i ∷ []) (placed r (drop (i + 1) rs)))
-      ∙ ap (λ (ys : List Route). ys ++ placed r (drop (i + 1) rs)) (sym (take_more rs i start_route h))
-
-  pub belongs_last : length rs ≡ i → Belongs r rs i
-  unfolding placed
-  belongs_last h = record {
-    within = omega arith;
-    is =
-        behind ∙ ap (λ (ys : List Route). take i rs ++ ys) (at_drop_all (placed r) rs i (omega arith))
-        ∙ ap (λ (ys : List Route). take i rs ++ r ∷ ys) (sym (drop_all i rs (omega arith)));
-  }
+pub placed_in : (r : Route) (rs : List Route) (at : ℕ) → at ≡ unwrap_or (position (before r) rs) (length rs) → placed r rs ≡ insert rs at r
+placed_in r rs at e =
+    placed_at r rs
+    ∙ ap (λ (n : ℕ). insert rs n r) (sym (e ∙ looked_for (position_or_len (before r) rs) (length rs) (prefix_len-le-length (λ x. not (before r x)) rs)))

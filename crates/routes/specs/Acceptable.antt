@@ -10,4 +10,4 @@ is_port p = nat_le p last_port || p == discard
 
 abbrev pub acceptable : Route → Bool
 acceptable r =
-    is_mask r.mask && (bit_and r.network r.mask == r.network && (is_port r.port && nat_le r.life max_life))
+    is_mask r.subnet.mask && (bit_and r.subnet.network r.subnet.mask == r.subnet.network && (is_port r.port && nat_le r.life max_life))

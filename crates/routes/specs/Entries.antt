@@ -7,15 +7,14 @@ use Rattle.routes.specs.declared.route.Route.{Route}
 
 -- the bytes that carry a route: its flags are 0
 abbrev pub route_bytes : Route → List ℕ
-route_bytes r = r.network ∷ r.mask ∷ 0 ∷ r.port ∷ bytes32 r.life
+route_bytes r = r.subnet.network ∷ r.subnet.mask ∷ 0 ∷ r.port ∷ bytes32 r.life
 
 -- the entry that bytes carry
 abbrev pub entry_in : List ℕ → Entry
 entry_in xs = record {
   flags = slice_index xs 2;
   route = record {
-    network = slice_index xs 0;
-    mask = slice_index xs 1;
+    subnet = record { network = slice_index xs 0; mask = slice_index xs 1 };
     port = slice_index xs 3;
     life = word32 (slice_index xs 4) (slice_index xs 5) (slice_index xs 6) (slice_index xs 7);
   };

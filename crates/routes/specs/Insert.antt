@@ -1,16 +1,17 @@
 -- Putting an entry among others: the entry for its subnet is updated, or it stands as a new one where it belongs.
-use Rattle.std.specs.Prelude.{ℕ, Bool, false, cond, ◌||◌, List, [], ◌∷◌}
+use Rattle.std.specs.Prelude.{Bool, cond, List, [], ◌∷◌}
+use Rattle.std.specs.List.{list_any}
 use Rattle.routes.specs.Order.{of_subnet, same_subnet, before}
 use Rattle.routes.specs.declared.route.Route.{Route}
+use Rattle.routes.specs.declared.route.Subnet.{Subnet}
 
 -- an entry is there for the subnet
-unfoldable pub has_subnet : ℕ → ℕ → List Route → Bool
-has_subnet network mask [] = false
-has_subnet network mask (x ∷ xs) = of_subnet network mask x || has_subnet network mask xs
+abbrev pub has_subnet : Subnet → List Route → Bool
+has_subnet s rs = list_any (of_subnet s) rs
 
 -- the same subnet, with port and life set anew
 abbrev pub renewed : Route → Route → Route
-renewed x r = record { network = x.network; mask = x.mask; port = r.port; life = r.life }
+renewed x r = record { subnet = x.subnet; port = r.port; life = r.life }
 
 -- the entry for the route's subnet renewed
 unfoldable pub updated : Route → List Route → List Route
@@ -23,4 +24,4 @@ placed r [] = r ∷ []
 placed r (x ∷ xs) = cond (before r x) (r ∷ x ∷ xs) (x ∷ placed r xs)
 
 abbrev pub insert : Route → List Route → List Route
-insert r rs = cond (has_subnet r.network r.mask rs) (updated r rs) (placed r rs)
+insert r rs = cond (has_subnet r.subnet rs) (updated r rs) (placed r rs)

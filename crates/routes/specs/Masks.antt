@@ -1,5 +1,6 @@
 -- A mask is a byte of ones followed by zeros: read from the lowest bit on, zeros and then ones.
-use Rattle.std.specs.Prelude.{◌≡◌, ℕ, zero, suc, ◌+◌, ◌-◌, ◌/◌, ◌%◌, Bool, true, cond, ◌&&◌, List, [], ◌∷◌, ◌==◌, count_ones, nat_lt}
+use Rattle.std.specs.Prelude.{◌≡◌, ℕ, zero, suc, ◌-◌, ◌/◌, ◌%◌, Bool, true, ◌&&◌, List, [], ◌∷◌, drop, ◌==◌, count_ones, nat_lt}
+use Rattle.std.specs.List.{list_all, count_by, prefix_len, range_with_len}
 use Rattle.std.specs.Int.Count.{count_leading_zeros}
 
 -- the lowest bits of a number, so many of them, lowest first
@@ -7,14 +8,9 @@ unfoldable pub bits : ℕ → ℕ → List ℕ
 bits zero n = []
 bits (suc k) n = n % 2 ∷ bits k (n / 2)
 
-unfoldable pub only_ones : List ℕ → Bool
-only_ones [] = true
-only_ones (b ∷ bs) = b == 1 && only_ones bs
-
--- zeros, as many as there are, and from there on ones
+-- behind the zeros in front there are only ones
 unfoldable pub zeros_then_ones : List ℕ → Bool
-zeros_then_ones [] = true
-zeros_then_ones (b ∷ bs) = cond (b == 0) (zeros_then_ones bs) (only_ones (b ∷ bs))
+zeros_then_ones bs = list_all (λ b. b == 1) (drop (prefix_len (λ b. b == 0) bs) bs)
 
 unfoldable pub is_mask : ℕ → Bool
 is_mask m = nat_lt m 256 && zeros_then_ones (bits 8 m)
@@ -25,8 +21,7 @@ ones_lead m = count_leading_zeros 8 (255 - m) == count_ones m
 
 -- how many numbers below n pass a test
 unfoldable pub count_below : ℕ → (ℕ → Bool) → ℕ
-count_below zero test = 0
-count_below (suc n) test = cond (test n) 1 0 + count_below n test
+count_below n test = count_by test (range_with_len 0 n)
 
 -- of the 256 bytes nine are masks, and 0 and 255 are among them
 pub record NineMasks : Type 0 where

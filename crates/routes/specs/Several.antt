@@ -1,6 +1,7 @@
 -- Several entries at once: all of them in order, or none.
-use Rattle.std.specs.Prelude.{◌≡◌, Bool, true, false, cond, not, ◌&&◌, List, [], ◌∷◌, length, is_ok, Some, None, Ok, Err, Option, Result, nat_lt}
-use Rattle.std.specs.Option.{unwrap_or}
+use Rattle.std.specs.Prelude.{◌≡◌, Bool, true, false, cond, not, List, [], ◌∷◌, length, is_ok, Some, Ok, Err, Option, Result, nat_lt}
+use Rattle.std.specs.List.{fold, list_all}
+use Rattle.std.specs.Option.{option_and_then, unwrap_or}
 use Rattle.routes.specs.Entries.{can_add}
 use Rattle.routes.specs.Insert.{has_subnet, insert}
 use Rattle.routes.specs.Limits.{max_routes}
@@ -12,23 +13,17 @@ use Rattle.routes.specs.declared.table.NotPut.{NotPut}
 use Rattle.routes.specs.declared.table.NotPut.TheVariants.{NotAcceptable, Full}
 
 -- each entry may be added
-unfoldable pub can_add_all : List Entry → Bool
-can_add_all [] = true
-can_add_all (e ∷ es) = can_add e && can_add_all es
+abbrev pub can_add_all : List Entry → Bool
+can_add_all es = list_all can_add es
 
 -- the routes of entries put among others, one after another
-unfoldable pub insert_all : List Entry → List Route → List Route
-insert_all [] rs = rs
-insert_all (e ∷ es) rs = insert_all es (insert e.route rs)
-
-abbrev pub and_then : Option (List Route) → (List Route → Option (List Route)) → Option (List Route)
-and_then None f = None
-and_then (Some rs) f = f rs
+abbrev pub insert_all : List Entry → List Route → List Route
+insert_all es rs = fold (λ is e. insert e.route is) rs es
 
 -- the entries for some subnets taken out, one after another, if each is there when its turn comes
 unfoldable pub remove_all : List Entry → List Route → Option (List Route)
 remove_all [] rs = Some rs
-remove_all (e ∷ es) rs = and_then (remove e.route.network e.route.mask rs) (remove_all es)
+remove_all (e ∷ es) rs = option_and_then (remove_all es) (remove e.route.subnet rs)
 
 -- ---- what the calls answer and leave
 
@@ -47,4 +42,4 @@ delete_left es rs = refilled (unwrap_or (remove_all es rs) rs)
 -- one entry for a new subnet that was added and is deleted again leaves what was there before
 abbrev pub OneTakenBack : List Entry → List Route → Result (Unit {0}) NotPut → List Route → Type 0
 OneTakenBack es was told is =
-    (e : Entry) → es ≡ e ∷ [] → is_ok told ≡ true → has_subnet e.route.network e.route.mask was ≡ false → remove_all es is ≡ Some was
+    (e : Entry) → es ≡ e ∷ [] → is_ok told ≡ true → has_subnet e.route.subnet was ≡ false → remove_all es is ≡ Some was

@@ -4,7 +4,7 @@ use Rattle.std.specs.Prelude.{List, [], ◌∷◌}
 use Rattle.routes.specs.declared.route.Route.{Route}
 
 abbrev pub start_route : Route
-start_route = record { network = 0; mask = 0; port = 0; life = 0 }
+start_route = record { subnet = record { network = 0; mask = 0 }; port = 0; life = 0 }
 
 abbrev pub start_routes : List Route
 start_routes = start_route ∷ []

@@ -2,7 +2,7 @@
 ghost use Rattle.std.specs.Prelude.{◌≡◌};
 ghost use Rattle.routes.specs.Entries.{route_bytes, entry_in, can_add};
 
-use crate::route::Route;
+use crate::route::{Route, Subnet};
 
 /// How many bytes an entry has: network, mask, flags and port, and the life in four bytes, lowest first.
 pub const ENTRY_SIZE: usize = 8;
@@ -14,41 +14,39 @@ pub struct Entry {
     pub route: Route,
 }
 
-impl Entry {
-    /// The entry that eight bytes carry.
-    pub fn from_bytes(bytes: [u8; ENTRY_SIZE]) -> Entry
-        ensures { result ≡ entry_in bytes }
-    {
+/// The entry that eight bytes carry.
+impl From<[u8; ENTRY_SIZE]> for Entry {
+    ghost from_gives = { λ bytes entry. entry ≡ entry_in bytes };
+
+    fn from(bytes: [u8; ENTRY_SIZE]) -> Entry {
         let [network, mask, flags, port, l0, l1, l2, l3] = bytes;
-        let life = u32::from_le_bytes([l0, l1, l2, l3]);
         Entry {
             flags,
             route: Route {
-                network,
-                mask,
+                subnet: Subnet { network, mask },
                 port,
-                life,
+                life: u32::from_le_bytes([l0, l1, l2, l3]),
             },
         }
     }
+}
 
+impl Entry {
     /// Whether the entry may be added: no flag is set, and the route may stand in a table.
     pub fn can_be_added(self) -> bool
         ensures { result ≡ can_add self }
     {
-        if self.flags != 0 {
-            return false;
-        }
-        self.route.is_acceptable()
+        self.flags == 0 && self.route.is_acceptable()
     }
 }
 
-impl Route {
-    /// The eight bytes that carry the route, with no flag set.
-    pub fn to_bytes(self) -> [u8; ENTRY_SIZE]
-        ensures { result ≡ route_bytes self }
-    {
-        let [l0, l1, l2, l3] = self.life.to_le_bytes();
-        [self.network, self.mask, 0, self.port, l0, l1, l2, l3]
+/// The eight bytes that carry a route, with no flag set.
+impl From<Route> for [u8; ENTRY_SIZE] {
+    ghost from_gives = { λ route bytes. bytes ≡ route_bytes route };
+
+    fn from(route: Route) -> [u8; ENTRY_SIZE] {
+        let Subnet { network, mask } = route.subnet;
+        let [l0, l1, l2, l3] = route.life.to_le_bytes();
+        [network, mask, 0, route.port, l0, l1, l2, l3]
     }
 }

@@ -1,11 +1,12 @@
 //! The table of routes, with its rules in its type. What it means is said in the modules below, since a type with an invariant cannot
 //! name what names it.
-ghost use Rattle.std.specs.Prelude.{◌≡◌, ◌≤◌, true, length, take};
+ghost use Rattle.std.specs.Prelude.{◌≡◌, true};
+ghost use Rattle.array_vec.specs.Held.{held};
 ghost use Rattle.routes.specs.Lawful.{lawful};
-ghost use Rattle.routes.specs.Limits.{max_routes};
 
 use crate::MAX_ROUTES;
 use crate::route::Route;
+use array_vec::ArrayVec;
 
 pub mod ageing;
 pub mod changing;
@@ -24,10 +25,6 @@ pub enum NotPut {
 /// Up to 15 routes, those with most ones in the mask first, and among as many those with the lower network; one for a subnet at most.
 #[derive(Clone, Copy)]
 pub struct Table {
-    /// Those in use stand in front.
-    entries: [Route; MAX_ROUTES],
-    len: usize,
-    ghost whole: { length entries ≡ max_routes },
-    ghost within: { len ≤ max_routes },
-    ghost rules: { lawful (take len entries) ≡ true },
+    entries: ArrayVec<Route, MAX_ROUTES>,
+    ghost rules: { lawful (held entries) ≡ true },
 }

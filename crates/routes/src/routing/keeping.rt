@@ -6,51 +6,47 @@ ghost use Rattle.routes.specs.Kept.{routes_of};
 ghost use Rattle.routes.specs.Lawful.{Lawful};
 ghost use Rattle.routes.specs.Listed.{listed};
 ghost use Rattle.routes.specs.Lookup.{port_for, MostSpecific};
-ghost use Rattle.routes.specs.Start.{start_route, start_routes, refilled};
+ghost use Rattle.routes.specs.Start.{start_routes, refilled};
 
 use super::Routes;
-use crate::route::Route;
+use crate::route::{Route, Subnet};
 use crate::table::Table;
 
 /// The entry that a node starts with: every destination at port 0, for good.
-fn start_route() -> Route
-    ensures { result ≡ start_route }
-{
-    Route {
+const START: Route = Route {
+    subnet: Subnet {
         network: 0,
         mask: 0,
-        port: 0,
-        life: 0,
-    }
-}
+    },
+    port: 0,
+    life: 0,
+};
 
-/// The table that a node starts with.
-fn start_table() -> Table
-    ensures { listed result ≡ start_routes }
-{
-    Table::only(start_route())
-}
+/// The routes that a node starts with.
+impl Default for Routes {
+    ghost is_default = { λ r. routes_of r ≡ start_routes };
 
-impl Routes {
-    /// The routes that a node starts with.
-    pub fn new() -> Routes
-        ensures { routes_of result ≡ start_routes }
-    {
+    #[tactic(auto, using(crate::proofs::Acceptances::start_acceptable))]
+    fn default() -> Routes {
         Routes {
-            table: start_table(),
+            table: Table::only(START),
         }
     }
+}
 
-    /// The routes of a table; where it is empty, those that a node starts with.
-    pub fn from_table(table: Table) -> Routes
-        ensures { routes_of result ≡ refilled (listed table) }
-    {
+/// The routes of a table; where it is empty, those that a node starts with.
+impl From<Table> for Routes {
+    ghost from_gives = { λ t r. routes_of r ≡ refilled (listed t) };
+
+    fn from(table: Table) -> Routes {
         if table.entries().is_empty() {
-            return Routes::new();
+            return Routes::default();
         }
         Routes { table }
     }
+}
 
+impl Routes {
     /// A table with these routes, for a request to work on.
     pub fn table(&self) -> Table
         ensures { listed result ≡ routes_of self.now }
@@ -63,10 +59,9 @@ impl Routes {
     pub fn age(&mut self, step: u32)
         ensures { routes_of self.new ≡ refilled (aged step (routes_of self.old)) }
     {
-        self.table.age(step);
-        if self.table.entries().is_empty() {
-            self.table = start_table();
-        }
+        let mut table = self.table;
+        table.age(step);
+        *self = Routes::from(table);
     }
 
     /// The port for a destination: that of the most specific entry that fits it. Where none fits, what is sent is discarded.

@@ -14,12 +14,7 @@ use crate::table::{NotPut, Table};
 fn can_add_all(entries: &[Entry]) -> bool
     ensures { result ≡ can_add_all entries.now }
 {
-    for e in entries {
-        if !e.can_be_added() {
-            return false;
-        }
-    }
-    true
+    entries.iter().all(|e| e.can_be_added())
 }
 
 /// A table with the route of each entry put in turn, unless one finds no place.
@@ -35,39 +30,32 @@ fn put_each(table: Table, entries: &[Entry]) -> Result<Table, NotPut>
 }
 
 /// A table with the entry for each subnet removed in turn, unless one is missing then.
+#[tactic(auto, using(crate::proofs::Several::remove_more, crate::proofs::Several::remove_last, crate::proofs::Several::removed_one, crate::proofs::Several::removed_none))]
 fn remove_each(table: Table, entries: &[Entry]) -> Option<Table>
     ensures { option_map listed result ≡ remove_all entries.now (listed table) }
 {
     let mut shorter = table;
     for e in entries {
-        if !shorter.remove(e.route.network, e.route.mask) {
-            return None;
-        }
+        shorter.remove(e.route.subnet)?;
     }
     Some(shorter)
 }
 
 impl Routes {
-    fn add(&mut self, entries: &[Entry]) -> Result<(), NotPut>
-        ensures told { result ≡ add_answer entries.now (routes_of self.old) }
-        ensures left { routes_of self.new ≡ add_left entries.now (routes_of self.old) }
-    {
-        if !can_add_all(entries) {
-            return Err(NotPut::NotAcceptable);
-        }
-        let table = put_each(self.table, entries)?;
-        *self = Routes::from_table(table);
-        Ok(())
-    }
-
     /// Adds or updates an entry for each one given, in order, or none where one may not be added or there would be too many. A single
     /// new entry that is deleted again leaves what was there before.
+    #[tactic(auto, using(crate::proofs::Several::all_added, crate::proofs::Several::all_taken_back))]
     pub fn add_all(&mut self, entries: &[Entry]) -> Result<(), NotPut>
         ensures told { result ≡ add_answer entries.now (routes_of self.old) }
         ensures left { routes_of self.new ≡ add_left entries.now (routes_of self.old) }
         ensures taken_back { OneTakenBack entries.now (routes_of self.old) result (routes_of self.new) }
     {
-        self.add(entries)
+        if !can_add_all(entries) {
+            return Err(NotPut::NotAcceptable);
+        }
+        let table = put_each(self.table, entries)?;
+        *self = Routes::from(table);
+        Ok(())
     }
 
     /// Deletes the entry for each subnet given, in order, or none where one is missing when its turn comes; tells whether all were
@@ -79,7 +67,7 @@ impl Routes {
         let Some(table) = remove_each(self.table, entries) else {
             return false;
         };
-        *self = Routes::from_table(table);
+        *self = Routes::from(table);
         true
     }
 }

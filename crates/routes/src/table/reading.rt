@@ -1,85 +1,43 @@
 //! What a table holds, and where.
-ghost use Rattle.std.specs.Prelude.{◌≡◌, true, length, nat_le};
+ghost use Rattle.std.specs.Prelude.{◌≡◌, true};
+ghost use Rattle.std.specs.List.{insert};
 ghost use Rattle.routes.specs.Acceptable.{is_port};
+ghost use Rattle.routes.specs.Insert.{placed};
 ghost use Rattle.routes.specs.Lawful.{Lawful};
-ghost use Rattle.routes.specs.Limits.{max_routes};
 ghost use Rattle.routes.specs.Listed.{listed};
 ghost use Rattle.routes.specs.Lookup.{port_for, MostSpecific};
-ghost use Rattle.routes.specs.Places.{Found, Tells, Belongs};
+ghost use Rattle.routes.specs.Places.{Tells};
 
 use super::Table;
-use crate::route::Route;
-use crate::{DISCARD, MAX_ROUTES};
-
-/// Where the first entry for a subnet stands, if there is one.
-fn first_of(routes: &[Route], network: u8, mask: u8) -> Option<usize>
-    ensures { Found network mask routes.now result }
-{
-    for (i, route) in routes.iter().enumerate() {
-        if route.is_of(network, mask) {
-            return Some(i);
-        }
-    }
-    None
-}
-
-/// Where a new entry belongs.
-pub(super) fn place_for(routes: &[Route], new: Route) -> usize
-    ensures { Belongs new routes.now result }
-{
-    for (i, route) in routes.iter().enumerate() {
-        if new.is_before(*route) {
-            return i;
-        }
-    }
-    routes.len()
-}
-
-/// The port of the first entry that fits.
-fn first_port(routes: &[Route], dest: u8) -> u8
-    ensures { result ≡ port_for routes.now dest }
-{
-    for route in routes {
-        if route.fits(dest) {
-            return route.port;
-        }
-    }
-    DISCARD
-}
+use crate::DISCARD;
+use crate::route::{Route, Subnet};
 
 impl Table {
-    fn in_use(&self) -> &[Route]
-        ensures { result.now ≡ listed self.now }
-    {
-        &self.entries[0..self.len]
-    }
-
     /// The entries, in order.
+    #[tactic(auto, using(crate::proofs::Lawfulness::by_places))]
     pub fn entries(&self) -> &[Route]
         ensures value { result.now ≡ listed self.now }
         ensures rules { Lawful result.now }
     {
-        self.in_use()
-    }
-
-    /// Whether there are as many entries as the table can hold.
-    pub(super) fn is_full(&self) -> bool
-        ensures { result ≡ nat_le max_routes (length (listed self.now)) }
-    {
-        self.in_use().len() >= MAX_ROUTES
+        self.entries.as_slice()
     }
 
     /// Where the entry for a subnet stands, if there is one.
-    pub(super) fn find(&self, network: u8, mask: u8) -> Option<usize>
-        ensures { Tells network mask (listed self.now) result }
+    pub(super) fn find(&self, subnet: Subnet) -> Option<usize>
+        ensures { Tells subnet (listed self.now) result }
     {
-        first_of(self.in_use(), network, mask)
+        self.entries().iter().position(|r| subnet == r.subnet)
     }
 
-    fn look_up(&self, dest: u8) -> u8
-        ensures { result ≡ port_for (listed self.now) dest }
+    /// Where a new entry belongs: in front of the first one that it stands before.
+    pub(super) fn place_for(&self, new: Route) -> usize
+        ensures { placed new (listed self.now) ≡ insert (listed self.now) result new }
     {
-        first_port(self.in_use(), dest)
+        let entries = self.entries();
+        entries
+            .iter()
+            .position(|r| new.subnet.is_before(r.subnet))
+            .unwrap_or(entries.len())
     }
 
     /// The port for a destination: that of the most specific entry that fits it. Where none fits, what is sent is discarded.
@@ -88,6 +46,9 @@ impl Table {
         ensures best { MostSpecific (listed self.now) dest result }
         ensures port { is_port result ≡ true }
     {
-        self.look_up(dest)
+        self.entries()
+            .iter()
+            .find(|r| r.subnet.contains(dest))
+            .map_or(DISCARD, |r| r.port)
     }
 }

@@ -34,7 +34,6 @@ loop-e-preserved c =
     (ap (insert_all (drop (i + 1) es)) (one.done (ap is_ok c.in_ok-put.was)) ∙ sym (insert_more es i h rs) ∙ c.loop-e.invariant.0, can.1)
 
 pub returns : goal.returns
-unfolding insert_all
 returns c =
     let es = c.args.entries.now in
     let t = c.loop-e.longer in

@@ -1,64 +1,35 @@
-use Rattle.std.proofs.Common.{◌≡◌, ℕ, ◌+◌, ◌<◌, length, get_or, Option, sym, ap, ◌∙◌, arith, length-set}
-use Rattle.std.proofs.lemmas.List.Edits.{length-remove}
-use Rattle.routes.specs.Ageing.{life_left, with_life}
+use Rattle.std.proofs.Common.{◌≡◌, ◌<◌, length, take, is_ok, Some, None, sym, ap, ◌∙◌, append-nil, arith}
+use Rattle.std.proofs.lemmas.Bool.{cond-true, lt-ltb}
+use Rattle.std.proofs.lemmas.List.{take_all, length-take-le}
+use Rattle.array_vec.specs.Held.{held}
+use Rattle.routes.specs.Ageing.{aged}
+use Rattle.routes.specs.Lawful.{lawful}
+use Rattle.routes.specs.Limits.{max_routes}
 use Rattle.routes.specs.Listed.{listed}
-use Rattle.routes.specs.Places.{at_place}
-use Rattle.routes.specs.Start.{start_route}
-use Rattle.routes.specs.declared.route.Route.{Route}
-use Rattle.routes.specs.declared.table.Table.{Table}
-use Rattle.routes.proofs.Ageing.{aged_from, ages_on, ages_out, aged_all, not_longer}
-use Rattle.routes.proofs.Tables.{listed_length, listed_at}
+use Rattle.routes.proofs.Ageing.{aged_more}
+use Rattle.routes.proofs.Lawfulness.{lawful_aged, length_aged}
+use Rattle.routes.proofs.table.Table.age.Goals.{in-Some, in_default}
 use Rattle.routes.proofs.table.Table.age.Goals as goal
 
--- the life that is left of the entry at a place, as the code reads it
-left_at : (t : Table) (at step : ℕ) (o : Option ℕ) → at < t.len → o ≡ life_left (get_or t.entries at start_route).life step → life_left (at_place (listed t) at).life step ≡ o
-left_at t at step o h e = ap (λ (x : Route). life_left x.life step) (listed_at t at h) ∙ sym e
+pub loop-route-preserved : goal.loop-route-preserved
+loop-route-preserved c =
+    let rs = c.entries-route-items.result.now in
+    let i = c.loop-route.route-index in
+    let left = held c.loop-route.left in
+    let h = c.loop-route-test.true in
+    let few = length_aged c.args.step (take i rs) in
+    let room : length left < max_routes = omega (arith, few, ap length c.loop-route.invariant, length-take-le i rs (omega arith), c.entries-route-items.ensures.rules.few) in
+    elim c.match-older.branch [
+      | in-Some w ↦ ap held w.left-is ∙ w.push.ensures.after ∙ cond-true (is_ok w.push.result) _ _ (w.push.ensures.told ∙ lt-ltb (length left) max_routes room)
+          ∙ aged_more c.args.step rs i left (Some w.in-Some.older) h c.loop-route.invariant (sym w.in-Some.is ∙ c.older.ensures)
+      | in_default w ↦ ap held w.left-is ∙ sym (append-nil left)
+          ∙ aged_more c.args.step rs i left None h c.loop-route.invariant (sym w.in_default.is ∙ c.older.ensures)
+    ]
 
-pub set_life-requires : goal.set_life-requires
-set_life-requires c =
-    let t = c.loop-at.self in
-    let at = c.loop-at.at in
-    let left = left_at t at c.args.step _ c.loop-at-test.true c.in-Some.ensures in
-    record {
-      within = omega (arith, listed_length t);
-      shorter = not_longer (at_place (listed t) at).life c.args.step c.in-Some.life left;
-    }
-
-pub take_out-requires : goal.take_out-requires
-take_out-requires c = omega (arith, listed_length c.loop-at.self)
-
-pub loop-at-preserved-in-Some : goal.loop-at-preserved-in-Some
-loop-at-preserved-in-Some c =
-    let t = c.loop-at.self in
-    let at = c.loop-at.at in
-    let left = left_at t at c.args.step _ c.loop-at-test.true c.in-Some.ensures in
-    ap (aged_from (at + 1) c.args.step) c.set_life.ensures
-    ∙ ages_on c.args.step at (listed t) (omega (arith, listed_length t)) c.in-Some.life left
-    ∙ c.loop-at.invariant
-
-pub loop-at-smaller-in-Some : goal.loop-at-smaller-in-Some
-loop-at-smaller-in-Some c =
-    let t = c.loop-at.self in
-    let at = c.loop-at.at in
-    let same = ap length c.set_life.ensures ∙ length-set (listed t) at (with_life (at_place (listed t) at) c.in-Some.life) in
-    omega (arith, listed_length t, same)
-
-pub loop-at-preserved : goal.loop-at-preserved
-loop-at-preserved c =
-    let t = c.loop-at.self in
-    let at = c.loop-at.at in
-    ap (aged_from at c.args.step) c.take_out.ensures
-    ∙ ages_out c.args.step at (listed t) (omega (arith, listed_length t)) (left_at t at c.args.step _ c.loop-at-test.true c.in-None.ensures)
-    ∙ c.loop-at.invariant
-
-pub loop-at-smaller : goal.loop-at-smaller
-loop-at-smaller c =
-    let t = c.loop-at.self in
-    let at = c.loop-at.at in
-    let fewer = length-remove (listed t) at (omega (arith, listed_length t)) in
-    omega (arith, listed_length t, fewer, ap length c.take_out.ensures)
-
-pub returns : goal.returns
-returns c =
-    let t = c.loop-at.self in
-    sym (aged_all c.args.step c.loop-at.at (listed t) (omega (arith, listed_length t))) ∙ c.loop-at.invariant
+pub invariant_of-self : goal.invariant_of-self
+invariant_of-self c =
+    let self = c.args.self.now in
+    let all : held c.loop-route.left ≡ aged c.args.step (listed self) =
+    c.loop-route.invariant
+    ∙ ap (aged c.args.step) (take_all c.loop-route.route-index c.entries-route-items.result.now (omega (arith, c.loop-route-test.false)) ∙ c.entries-route-items.ensures.value) in
+    record { rules = ap lawful all ∙ lawful_aged c.args.step (listed self) self.rules }
