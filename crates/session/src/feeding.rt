@@ -1,14 +1,13 @@
 //! A session: an input is cut into lines as it comes, and each is obeyed.
-ghost use Rattle.std.specs.Prelude.{◌≡◌, ℕ, ◌+◌, ◌^◌, ◌<◌, false, List, [], ◌∷◌, ◌++◌, length, is_some, IfOk, Some, string_bytes};
+ghost use Rattle.std.specs.Prelude.{◌≡◌, ℕ, ◌+◌, ◌^◌, ◌<◌, List, [], ◌∷◌, ◌++◌, length, is_some, IfOk, Some, string_bytes};
 ghost use Rattle.std.specs.Option.{option_map};
 ghost use Rattle.bench.specs.Lines.{line_read};
 ghost use Rattle.bench.specs.Values.{value_of};
 ghost use Rattle.session.specs.Texts.{ends_text as text_ends, cut, texts};
 ghost use Rattle.session.specs.Obeying.{first_bad, bad_text, output};
-ghost use Rattle.session.specs.Sessions.{Fed, EndsText, TakesBytes, Feeds, Finishes};
+ghost use Rattle.session.specs.Sessions.{is_stopped, Fed, EndsText, TakesBytes, Feeds, Finishes};
 
 use crate::obey::Obey;
-use crate::texts::append;
 use bench::MAX_LINE;
 use bench::line::{Line, NotRead};
 use std::alloc::{AllocError, Global};
@@ -16,13 +15,19 @@ use std::alloc::{AllocError, Global};
 /// An input that is being read, and what obeys its lines.
 #[derive(Drop)]
 pub struct Session<H> {
+    heap: Global,
     handler: H,
+    /// None once a text was no line: nothing counts any more.
+    reading: Option<Reading>,
+}
+
+/// Where the input is being read.
+#[derive(Drop)]
+struct Reading {
     /// The text that is not ended yet.
     text: Vec<u8>,
     /// How many texts were lines.
     count: u64,
-    /// A text was no line, so nothing counts any more.
-    stopped: bool,
 }
 
 /// Whether a text of `held` bytes ends with the byte behind them.
@@ -51,101 +56,83 @@ fn bad(heap: Global, number: u64) -> Result<String, AllocError>
 }
 
 impl<H: Obey + Drop> Session<H> {
-    fn start(heap: Global, handler: H) -> Session<H>
-        ensures handler { result.handler ≡ handler }
-        ensures text { result.text.items ≡ [] }
-        ensures count { result.count ≡ 0 }
-        ensures going { result.stopped ≡ false }
-    {
-        Session {
-            handler,
-            text: Vec::new(heap),
-            count: 0,
-            stopped: false,
-        }
-    }
-
     /// Before the first byte.
     pub fn new(heap: Global, handler: H) -> Session<H>
         ensures { H.obeyed handler [] → Fed H.obeyed result [] }
     {
-        Session::start(heap, handler)
+        let reading = Some(Reading {
+            text: Vec::new(heap),
+            count: 0,
+        });
+        Session {
+            heap,
+            handler,
+            reading,
+        }
     }
 
-    /// Ends the text: obeys it as a line, or stops.
-    fn end_text(&mut self, heap: Global) -> Result<String, AllocError>
-        ensures { EndsText H.obeyed H.writes self.old result self.new }
+    /// Ends the text that was being read: obeys it as a line, or stops.
+    fn end_text(&mut self, reading: Reading) -> Result<String, AllocError>
+        ensures { EndsText H.obeyed H.writes self.old.handler reading result self.new }
     {
-        let number = self.count.saturating_add(1);
-        match read_text(heap, self.text.as_slice())? {
-            Some(line) => {
-                self.text.clear();
-                self.count = number;
-                self.handler.obey(heap, &line)
-            }
-            None => {
-                self.stopped = true;
-                bad(heap, number)
-            }
-        }
+        let Reading { mut text, count } = reading;
+        let number = count.saturating_add(1);
+        let Some(line) = read_text(self.heap, text.as_slice())? else {
+            self.reading = None;
+            return bad(self.heap, number);
+        };
+        text.clear();
+        self.reading = Some(Reading {
+            text,
+            count: number,
+        });
+        self.handler.obey(self.heap, &line)
     }
 
     /// Takes one byte, and tells what this writes.
-    fn byte(&mut self, heap: Global, byte: u8) -> Result<String, AllocError>
+    fn byte(&mut self, byte: u8) -> Result<String, AllocError>
         ensures { IfOk result (TakesBytes H.obeyed H.writes self.old (byte ∷ []) self.new) }
     {
-        if self.stopped {
-            return Ok(String::new(heap));
-        }
-        let ends = ends_text(self.text.len(), byte);
-        self.text.push(byte)?;
+        let Some(mut reading) = self.reading.take() else {
+            return Ok(String::new(self.heap));
+        };
+        let ends = ends_text(reading.text.len(), byte);
+        reading.text.push(byte)?;
         if ends {
-            return self.end_text(heap);
+            return self.end_text(reading);
         }
-        Ok(String::new(heap))
-    }
-
-    /// Takes some bytes, and tells what this writes.
-    fn take(self, heap: Global, bytes: &[u8]) -> Result<(Session<H>, String), AllocError>
-        ensures { IfOk result (λ p. TakesBytes H.obeyed H.writes self bytes.now p.0 p.1) }
-    {
-        let mut session = self;
-        let mut out = String::new(heap);
-        for byte in bytes {
-            let text = session.byte(heap, *byte)?;
-            out = append(out, text.as_str())?;
-        }
-        Ok((session, out))
+        self.reading = Some(reading);
+        Ok(String::new(self.heap))
     }
 
     /// Feeds a part of the input, and tells what its lines write. A session that runs out of memory is gone.
-    pub fn feed(self, heap: Global, chunk: &[u8]) -> Result<(Session<H>, String), AllocError>
+    pub fn feed(mut self, chunk: &[u8]) -> Result<(Session<H>, String), AllocError>
         ensures { IfOk result (λ p. Feeds H.obeyed H.writes self chunk.now p.0 p.1) }
     {
-        self.take(heap, chunk)
+        let mut out = String::new(self.heap);
+        for byte in chunk {
+            let text = self.byte(*byte)?;
+            out.push_str(text.as_str())?;
+        }
+        Ok((self, out))
     }
 
     /// Whether a text was no line, so that nothing counts any more.
     pub fn is_stopped(&self) -> bool
-        ensures value { result ≡ self.now.stopped }
+        ensures value { result ≡ is_stopped self.now }
         ensures input { (input : List ℕ) → Fed H.obeyed self.now input → result ≡ is_some (first_bad 1 (cut [] input)) }
     {
-        let Session { stopped, .. } = self;
-        *stopped
+        self.reading.is_none()
     }
 
     /// Comes to the end of the input, and tells what this writes: bytes that no line feed ended are no line.
-    pub fn finish(self, heap: Global) -> Result<String, AllocError>
+    pub fn finish(mut self) -> Result<String, AllocError>
         ensures { IfOk result (Finishes H.obeyed H.writes self) }
     {
-        let mut session = self;
-        if session.stopped {
-            return Ok(String::new(heap));
+        match self.reading.take() {
+            Some(reading) if !reading.text.is_empty() => self.end_text(reading),
+            _ => Ok(String::new(self.heap)),
         }
-        if session.text.is_empty() {
-            return Ok(String::new(heap));
-        }
-        session.end_text(heap)
     }
 }
 
@@ -153,7 +140,8 @@ impl<H: Obey + Drop> Session<H> {
 pub fn run<H: Obey + Drop>(heap: Global, handler: H, input: &[u8]) -> Result<String, AllocError>
     ensures { IfOk result (λ out. H.obeyed handler [] → string_bytes out ≡ output H.writes (texts input.now)) }
 {
-    let (session, out) = Session::new(heap, handler).feed(heap, input)?;
-    let last = session.finish(heap)?;
-    append(out, last.as_str())
+    let (session, mut out) = Session::new(heap, handler).feed(input)?;
+    let last = session.finish()?;
+    out.push_str(last.as_str())?;
+    Ok(out)
 }

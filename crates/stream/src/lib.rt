@@ -10,23 +10,21 @@ const PART: usize = 4096;
 
 /// Obeys the lines of the standard input until it ends or a text is no line.
 pub fn obey_input<H: Obey + Drop>(rt: &HostRuntime, handler: H) -> anyhow::Result<()> {
-    let heap = rt.alloc();
     let mut input = rt.stdin();
-    let mut session = Session::new(heap, handler);
+    let mut session = Session::new(rt.alloc(), handler);
     for _ in 0..u64::MAX {
         let mut part = [0u8; PART];
         let read = input.read(&mut part)?;
         if read == 0 {
             break;
         }
-        let (next, text) = session.feed(heap, &part[0..read])?;
+        let (next, text) = session.feed(&part[..read])?;
         session = next;
         rt.print(text)?;
         if session.is_stopped() {
             return Ok(());
         }
     }
-    let text = session.finish(heap)?;
-    rt.print(text)?;
+    rt.print(session.finish()?)?;
     Ok(())
 }
