@@ -20,14 +20,11 @@ Printed are
 ";
 
 fn run(rt: &HostRuntime) -> anyhow::Result<()> {
-    for word in env::args(rt)?.skip(1) {
-        if word.as_str() != "--help" {
-            return Err(anyhow!("dome-dump takes a recording on its standard input, or --help"));
-        }
-        rt.print(HELP)?;
-        return Ok(());
+    match env::args(rt)?.nth(1) {
+        None => obey_input(rt, BusMonitor::new()),
+        Some(word) if word.as_str() == "--help" => Ok(rt.print(HELP)?),
+        Some(_) => Err(anyhow!("dome-dump takes a recording on its standard input, or --help")),
     }
-    obey_input(rt, BusMonitor::new())
 }
 
 fn main(rt: HostRuntime) -> anyhow::Result<()> {

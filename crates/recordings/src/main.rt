@@ -25,11 +25,12 @@ fn compare(rt: &HostRuntime, name: &str) -> anyhow::Result<bool> {
 
 fn run(rt: &HostRuntime) -> anyhow::Result<()> {
     for name in NAMES {
-        if compare(rt, name)? {
-            println!(rt; "{name}: as it should be")?;
+        let verdict = if compare(rt, name)? {
+            "as it should be"
         } else {
-            println!(rt; "{name}: DIFFERS")?;
-        }
+            "DIFFERS"
+        };
+        println!(rt; "{name}: {verdict}")?;
     }
     Ok(())
 }

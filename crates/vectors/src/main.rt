@@ -30,11 +30,8 @@ fn crcs(rt: &HostRuntime, text: &str) -> anyhow::Result<()> {
 fn byte_table(rt: &HostRuntime) -> anyhow::Result<()> {
     for place in 0..256u16 {
         let entry = Bitwise::update(place, 0);
-        if place % ROW == ROW - 1 {
-            println!(rt; "0x{entry:04x},")?;
-        } else {
-            print!(rt; "0x{entry:04x}, ")?;
-        }
+        let end = if place % ROW == ROW - 1 { "\n" } else { " " };
+        print!(rt; "0x{entry:04x},{end}")?;
     }
     Ok(())
 }
@@ -43,9 +40,7 @@ fn byte_table(rt: &HostRuntime) -> anyhow::Result<()> {
 fn framed(rt: &HostRuntime, bytes: &[u8]) -> anyhow::Result<()> {
     let mut out = [0u8; MAX_FRAME];
     if let Ok(length) = write_frame(bytes, &mut out) {
-        let packet = Pairs(bytes);
-        let frame = Pairs(&out[0..length]);
-        println!(rt; "frame of{packet}:{frame}")?;
+        println!(rt; "frame of{}:{}", Pairs(bytes), Pairs(&out[..length]))?;
     }
     Ok(())
 }
@@ -62,9 +57,7 @@ fn sized(rt: &HostRuntime, size: usize) -> anyhow::Result<()> {
     let _ = write_packet(header, &[0x22u8; MAX_DATA], &mut bytes);
     let mut lines = String::new(heap);
     for part in bytes.iter().take(size) {
-        let pair = Hex(*part);
-        let line = format!(in heap; "L {pair}\n")?;
-        lines.push_str(line.as_str())?;
+        writeln!(lines, "L {}", Hex(*part))?;
     }
     lines.push_str("L C0\n")?;
     let text = dump_recording(heap, lines.as_bytes())?;
