@@ -1,54 +1,56 @@
 -- What texts tell, one part after another.
-use Rattle.std.proofs.Common.{◌≡◌, ℕ, ◌+◌, true, false, List, [], ◌∷◌, ◌++◌, length, is_some, Some, None, Option, sym, refl, ap, ◌∙◌, arith}
+use Rattle.std.proofs.Common.{◌≡◌, ℕ, ◌+◌, true, false, List, [], ◌∷◌, ◌++◌, length, map, is_some, is_none, Some, None, Option, sym, refl, ap, ◌∙◌, arith}
+use Rattle.std.specs.List.{position_from}
+use Rattle.std.specs.Option.{some_prefix}
 use Rattle.std.proofs.lemmas.Bool.{true≢false}
-use Rattle.bench.specs.Lines.{LineValue, line_read}
-use Rattle.session.specs.Obeying.{and_then, lines_in, or_else, first_bad}
+use Rattle.std.proofs.lemmas.List.{map-append, length-map}
+use Rattle.bench.specs.Lines.{line_read}
+use Rattle.session.specs.Obeying.{lines_in, first_bad}
+
+module _ {T : Type 0} where
+  -- ---- all are there, and more behind them
+
+  prefix_append : (n : ℕ) (os ps : List (Option T)) → is_some (position_from is_none n os) ≡ false → some_prefix (os ++ ps) ≡ some_prefix os ++ some_prefix ps
+  prefix_append n [] ps e = refl
+  prefix_append n (None ∷ os) ps e = absurd (true≢false e)
+  prefix_append n (Some x ∷ os) ps e = ap (λ (l : List T). x ∷ l) (prefix_append (n + 1) os ps e)
+
+  position_append : (n : ℕ) (os ps : List (Option T)) → is_some (position_from is_none n os) ≡ false → position_from is_none n (os ++ ps) ≡ position_from is_none (n + length os) ps
+  position_append n [] ps e = let k : n ≡ n + 0 = omega arith in ap (λ (m : ℕ). position_from is_none m ps) k
+  position_append n (None ∷ os) ps e = absurd (true≢false e)
+  position_append n (Some x ∷ os) ps e =
+      let k : n + 1 + length os ≡ n + length (Some x ∷ os) = omega arith in position_append (n + 1) os ps e ∙ ap (λ (m : ℕ). position_from is_none m ps) k
+
+  -- ---- behind one that is not there nothing counts
+
+  prefix_stop : (n : ℕ) (os ps : List (Option T)) → is_some (position_from is_none n os) ≡ true → some_prefix (os ++ ps) ≡ some_prefix os
+  prefix_stop n [] ps e = absurd (true≢false (sym e))
+  prefix_stop n (None ∷ os) ps e = refl
+  prefix_stop n (Some x ∷ os) ps e = ap (λ (l : List T). x ∷ l) (prefix_stop (n + 1) os ps e)
+
+  position_stop : (n : ℕ) (os ps : List (Option T)) → is_some (position_from is_none n os) ≡ true → position_from is_none n (os ++ ps) ≡ position_from is_none n os
+  position_stop n [] ps e = absurd (true≢false (sym e))
+  position_stop n (None ∷ os) ps e = refl
+  position_stop n (Some x ∷ os) ps e = position_stop (n + 1) os ps e
 
 -- ---- texts that are all lines, and more behind them
 
-lines_on : (o : Option LineValue) (n : ℕ) (later : Option ℕ) (vs ws us : List LineValue) → is_some (or_else o n later) ≡ false
-    → (is_some later ≡ false → ws ≡ vs ++ us) → and_then o ws ≡ and_then o vs ++ us
-lines_on None n later vs ws us e ih = absurd (true≢false e)
-lines_on (Some v) n later vs ws us e ih = ap (λ (l : List LineValue). v ∷ l) (ih e)
-
 pub lines_append : (n : ℕ) (ts us : List (List ℕ)) → is_some (first_bad n ts) ≡ false → lines_in (ts ++ us) ≡ lines_in ts ++ lines_in us
 unfolding lines_in first_bad
-lines_append n [] us e = refl
-lines_append n (t ∷ ts) us e =
-    lines_on (line_read t) n (first_bad (n + 1) ts) (lines_in ts) (lines_in (ts ++ us)) (lines_in us) e (lines_append (n + 1) ts us)
-
-bad_on : (o : Option LineValue) (n : ℕ) (later whole rest : Option ℕ) → is_some (or_else o n later) ≡ false
-    → (is_some later ≡ false → whole ≡ rest) → or_else o n whole ≡ rest
-bad_on None n later whole rest e ih = absurd (true≢false e)
-bad_on (Some v) n later whole rest e ih = ih e
+lines_append n ts us e = ap some_prefix (map-append line_read ts us) ∙ prefix_append n (map line_read ts) (map line_read us) e
 
 pub bad_append : (n : ℕ) (ts us : List (List ℕ)) → is_some (first_bad n ts) ≡ false → first_bad n (ts ++ us) ≡ first_bad (n + length ts) us
 unfolding first_bad
-bad_append n [] us e = let k : n ≡ n + 0 = omega arith in ap (λ (m : ℕ). first_bad m us) k
-bad_append n (t ∷ ts) us e =
-    bad_on (line_read t) n (first_bad (n + 1) ts) (first_bad (n + 1) (ts ++ us)) (first_bad (n + length (t ∷ ts)) us) e
-    (λ f. let k : n + 1 + length ts ≡ n + length (t ∷ ts) = omega arith in bad_append (n + 1) ts us f ∙ ap (λ (m : ℕ). first_bad m us) k)
+bad_append n ts us e =
+    ap (position_from is_none n) (map-append line_read ts us) ∙ position_append n (map line_read ts) (map line_read us) e
+    ∙ ap (λ (m : ℕ). position_from is_none (n + m) (map line_read us)) (length-map ts line_read)
 
 -- ---- behind a text that is no line nothing counts
 
-lines_cut : (o : Option LineValue) (n : ℕ) (later : Option ℕ) (vs ws : List LineValue) → is_some (or_else o n later) ≡ true
-    → (is_some later ≡ true → ws ≡ vs) → and_then o ws ≡ and_then o vs
-lines_cut None n later vs ws e ih = refl
-lines_cut (Some v) n later vs ws e ih = ap (λ (l : List LineValue). v ∷ l) (ih e)
-
 pub lines_stop : (n : ℕ) (ts us : List (List ℕ)) → is_some (first_bad n ts) ≡ true → lines_in (ts ++ us) ≡ lines_in ts
 unfolding lines_in first_bad
-lines_stop n [] us e = absurd (true≢false (sym e))
-lines_stop n (t ∷ ts) us e =
-    lines_cut (line_read t) n (first_bad (n + 1) ts) (lines_in ts) (lines_in (ts ++ us)) e (lines_stop (n + 1) ts us)
-
-bad_cut : (o : Option LineValue) (n : ℕ) (later whole : Option ℕ) → is_some (or_else o n later) ≡ true
-    → (is_some later ≡ true → whole ≡ later) → or_else o n whole ≡ or_else o n later
-bad_cut None n later whole e ih = refl
-bad_cut (Some v) n later whole e ih = ih e
+lines_stop n ts us e = ap some_prefix (map-append line_read ts us) ∙ prefix_stop n (map line_read ts) (map line_read us) e
 
 pub bad_stop : (n : ℕ) (ts us : List (List ℕ)) → is_some (first_bad n ts) ≡ true → first_bad n (ts ++ us) ≡ first_bad n ts
 unfolding first_bad
-bad_stop n [] us e = absurd (true≢false (sym e))
-bad_stop n (t ∷ ts) us e =
-    bad_cut (line_read t) n (first_bad (n + 1) ts) (first_bad (n + 1) (ts ++ us)) e (bad_stop (n + 1) ts us)
+bad_stop n ts us e = ap (position_from is_none n) (map-append line_read ts us) ∙ position_stop n (map line_read ts) (map line_read us) e

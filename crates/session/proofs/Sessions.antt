@@ -1,12 +1,13 @@
 -- A session takes texts and bytes.
-use Rattle.std.proofs.Common.{◌≡◌, ℕ, ◌+◌, ◌^◌, ◌<◌, Bool, true, false, cond, List, [], ◌∷◌, ◌++◌, length, is_some, IsSome, IfOk, Some, None, Ok, Err, vec_items, string_bytes, Option, Result, String, sym, refl, ap, ◌∙◌, subst, append_assoc, append-nil, arith, length-append}
-use Rattle.std.specs.Option.{MatchOption}
+use Rattle.std.proofs.Common.{◌≡◌, ℕ, ◌+◌, ◌^◌, ◌<◌, Bool, true, false, cond, List, [], ◌∷◌, ◌++◌, length, is_some, is_none, IsSome, IfOk, Some, None, Ok, Err, vec_items, string_bytes, Option, Result, String, sym, refl, ap, ◌∙◌, subst, append_assoc, append-nil, arith, length-append}
+use Rattle.std.specs.List.{position_from}
+use Rattle.std.specs.Option.{MatchOption, some_prefix}
 use Rattle.std.specs.declared.alloc.AllocError.{AllocError}
 use Rattle.std.specs.declared.alloc.Global.{Global}
 use Rattle.std.proofs.lemmas.List.{length_push, nil_from_length}
 use Rattle.bench.specs.Lines.{LineValue, line_read}
 use Rattle.session.specs.Texts.{ends_text, cut, uncut, last_text, texts}
-use Rattle.session.specs.Obeying.{and_then, lines_in, or_else, first_bad, bad_text, output, Obeys}
+use Rattle.session.specs.Obeying.{lines_in, first_bad, bad_text, output, Obeys}
 use Rattle.session.specs.Sessions.{Reads, Stands, Fed, said, Takes, EndsText, TakesBytes, Feeds, Finishes}
 use Rattle.session.specs.declared.feeding.Session.{Session}
 use Rattle.session.specs.declared.feeding.Reading.{Reading}
@@ -17,11 +18,11 @@ module _ {H : Type 0} (obeyed : H → List LineValue → Type 0) (writes : List 
   -- ---- one more text, where all before it were lines
 
   module _ (ts : List (List ℕ)) (t : List ℕ) (fine : first_bad 1 ts ≡ None) where
-    lines_more : lines_in (ts ++ t ∷ []) ≡ lines_in ts ++ and_then (line_read t) []
+    lines_more : lines_in (ts ++ t ∷ []) ≡ lines_in ts ++ some_prefix (line_read t ∷ [])
     unfolding lines_in
     lines_more = lines_append 1 ts (t ∷ []) (ap is_some fine)
 
-    bad_more : first_bad 1 (ts ++ t ∷ []) ≡ or_else (line_read t) (1 + length ts) None
+    bad_more : first_bad 1 (ts ++ t ∷ []) ≡ position_from is_none (1 + length ts) (line_read t ∷ [])
     unfolding first_bad
     bad_more = bad_append 1 ts (t ∷ []) (ap is_some fine)
 
@@ -59,8 +60,8 @@ module _ {H : Type 0} (obeyed : H → List LineValue → Type 0) (writes : List 
       → s'.reading ≡ Some r' → vec_items r'.text ≡ [] → r'.count ≡ r.count + 1
       → Takes obeyed writes s' ts (t ∷ []) [] out
   takes_line handler s' ts t v out r r' lines reads is step reading empty counted =
-      let more = lines_more ts t reads.lines ∙ ap (λ (o : Option LineValue). lines_in ts ++ and_then o []) is in
-      let bad = bad_more ts t reads.lines ∙ ap (λ (o : Option LineValue). or_else o (1 + length ts) None) is in
+      let more = lines_more ts t reads.lines ∙ ap (λ (o : Option LineValue). lines_in ts ++ some_prefix (o ∷ [])) is in
+      let bad = bad_more ts t reads.lines ∙ ap (λ (o : Option LineValue). position_from is_none (1 + length ts) (o ∷ [])) is in
       let done = step (lines_in ts) lines in
       record {
         stands =
@@ -77,8 +78,8 @@ module _ {H : Type 0} (obeyed : H → List LineValue → Type 0) (writes : List 
       → string_bytes out ≡ bad_text (Some (r.count + 1))
       → Takes obeyed writes s' ts (t ∷ []) [] out
   takes_bad s' ts t out r lines reads is reading text =
-      let more = lines_more ts t reads.lines ∙ ap (λ (o : Option LineValue). lines_in ts ++ and_then o []) is ∙ append-nil (lines_in ts) in
-      let bad = bad_more ts t reads.lines ∙ ap (λ (o : Option LineValue). or_else o (1 + length ts) None) is in
+      let more = lines_more ts t reads.lines ∙ ap (λ (o : Option LineValue). lines_in ts ++ some_prefix (o ∷ [])) is ∙ append-nil (lines_in ts) in
+      let bad = bad_more ts t reads.lines ∙ ap (λ (o : Option LineValue). position_from is_none (1 + length ts) (o ∷ [])) is in
       let number : 1 + length ts ≡ r.count + 1 = omega (arith, reads.count) in
       record {
         stands = stands_stopped s' (ts ++ t ∷ []) [] reading (subst (obeyed s'.handler) (sym more) lines) (ap is_some bad);

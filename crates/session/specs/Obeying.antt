@@ -1,30 +1,21 @@
 -- Texts are read as lines and obeyed in their order. The first text that is no line ends this: its number, from 1, is written, and
 -- nothing behind it counts.
-use Rattle.std.specs.Prelude.{◌≡◌, ℕ, ◌+◌, List, [], ◌∷◌, ◌++◌, Some, None, Ok, Err, string_bytes, codes, decimal, Option, Result, String}
+use Rattle.std.specs.Prelude.{◌≡◌, ℕ, List, [], ◌∷◌, ◌++◌, map, is_none, Some, None, Ok, Err, string_bytes, codes, decimal, Option, Result, String}
+use Rattle.std.specs.List.{position_from}
+use Rattle.std.specs.Option.{some_prefix}
 use Rattle.std.specs.declared.alloc.AllocError.{AllocError}
 use Rattle.std.specs.declared.alloc.Global.{Global}
 use Rattle.bench.specs.Lines.{LineValue, line_read}
 
 -- ---- what texts tell
 
--- what the first text tells, and what the others do, if it is a line
-abbrev pub and_then : Option LineValue → List LineValue → List LineValue
-and_then None more = []
-and_then (Some v) more = v ∷ more
-
 -- the lines before the first text that is none
 unfoldable pub lines_in : List (List ℕ) → List LineValue
-lines_in [] = []
-lines_in (t ∷ ts) = and_then (line_read t) (lines_in ts)
-
-abbrev pub or_else : Option LineValue → ℕ → Option ℕ → Option ℕ
-or_else None n later = Some n
-or_else (Some v) n later = later
+lines_in ts = some_prefix (map line_read ts)
 
 -- the number of the first text that is no line, where the first text has the number n
 unfoldable pub first_bad : ℕ → List (List ℕ) → Option ℕ
-first_bad n [] = None
-first_bad n (t ∷ ts) = or_else (line_read t) n (first_bad (n + 1) ts)
+first_bad n ts = position_from is_none n (map line_read ts)
 
 -- ---- what is written
 
