@@ -2,6 +2,7 @@
 use crate::line::{Line, NotRead};
 use refusals::Refusal;
 use std::alloc::{AllocError, Global};
+use std::iter::repeat_n;
 use std::test::Fail;
 
 #[test]
@@ -68,13 +69,9 @@ fn malformed_lines_are_refused(rt: HostRuntime) {
 }
 
 // A line of this many bytes.
-fn line_of(heap: Global, count: u8) -> Result<String, AllocError> {
-    let mut text = String::from_str(heap, "L")?;
-    for _ in 0..count {
-        text.push_str(" 5A")?;
-    }
-    text.push_str("\n")?;
-    Ok(text)
+fn line_of(heap: Global, count: usize) -> Result<String, AllocError> {
+    let pairs = repeat_n(" 5A", count).collect::<String>(heap)?;
+    format!(in heap; "L{pairs}\n")
 }
 
 #[test]
