@@ -26,8 +26,7 @@ impl fmt::Display for Pairs<'_> {
 
     fn fmt<W: fmt::Write>(&self, f: &mut fmt::Formatter<W>) -> fmt::Result {
         for byte in self.0 {
-            let pair = Hex(*byte);
-            write!(f, " {pair}")?;
+            write!(f, " {}", Hex(*byte))?;
         }
         Ok(())
     }

@@ -44,10 +44,7 @@ impl fmt::Display for Line {
 
     fn fmt<W: fmt::Write>(&self, f: &mut fmt::Formatter<W>) -> fmt::Result {
         match self {
-            Line::Bytes(bytes) => {
-                let pairs = Pairs(bytes.as_slice());
-                writeln!(f, "L{pairs}")
-            }
+            Line::Bytes(bytes) => writeln!(f, "L{}", Pairs(bytes.as_slice())),
             Line::Step(step) => writeln!(f, "T {step}"),
             Line::Fault(fault) => writeln!(f, "F {}", u8::from(*fault)),
         }

@@ -38,9 +38,7 @@ fn read_bytes(heap: Global, pairs: &[u8]) -> Result<Line, NotRead>
     }
     let mut bytes = Vec::with_capacity(heap, triples.len())?;
     for triple in triples {
-        let Some(byte) = spaced_byte(triple) else {
-            return Err(BAD_LINE);
-        };
+        let byte = spaced_byte(triple).ok_or(Refusal::BadLine)?;
         bytes.push(byte)?;
     }
     Ok(Line::Bytes(bytes))

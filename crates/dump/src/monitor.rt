@@ -43,9 +43,8 @@ impl BusMonitor {
                 let verdict = Verdict(Station::Monitor.judge(digest, &self.memory));
                 format!(in heap; "{verdict}")
             }
-            Ok(None) => Ok(String::new(heap)),
-            // never: the memory is long enough
-            Err(_) => Ok(String::new(heap)),
+            // it is never refused: the memory is long enough
+            Ok(None) | Err(_) => Ok(String::new(heap)),
         }
     }
 

@@ -13,8 +13,8 @@ use std::fmt;
 #[derive(Clone, Copy)]
 pub(crate) struct Verdict<'a>(pub(crate) Result<Packet<'a>, DropCause>);
 
-/// A packet is written as its destination, its source, its type and its data, and a dropped segment as the cause's number, but
-/// nothing is of an empty one.
+/// A packet is written as its destination, its source, its type and its data, and a dropped segment as the cause's number; of an
+/// empty one nothing is written.
 impl fmt::Display for Verdict<'_> {
     ghost output = { λ v. Some (verdict_text (shown_in v.0)) };
 

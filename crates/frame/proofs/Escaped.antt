@@ -2,6 +2,7 @@
 use Rattle.std.proofs.Common.{◌≡◌, ℕ, ◌+◌, ◌<◌, ◌≤◌, true, false, cond, not, ◌&&◌, ◌||◌, eqb, List, [], ◌∷◌, ◌++◌, length, get_or, take, drop, Some, None, sym, refl, ap, ◌∙◌, subst, ⊎_elim, append_assoc, append-nil, arith, length-append}
 use Rattle.std.specs.Option.{option_to_list}
 use Rattle.std.proofs.lemmas.List.{take_more, take-append-drop}
+use Rattle.std.proofs.lemmas.List.Sums.{fold-append}
 use Rattle.std.proofs.lemmas.Bool.{eqb-true, cases_Bool, or_cases, or_parts, true≢false}
 use Rattle.frame.specs.Framing.{flag, escape, escaped_flag, escaped_escape, escaped_byte, escaped, resolves, bad_escape, has_flag}
 use Rattle.frame.specs.Escapes.{after, meant, in_escape, after_all, meant_by, unescaped}
@@ -13,8 +14,7 @@ use Rattle.frame.specs.declared.escaping.Escaping.TheVariants.{Outside, Pending,
 
 pub after_append : (e : Escaping) (xs ys : List ℕ) → after_all e (xs ++ ys) ≡ after_all (after_all e xs) ys
 unfolding after_all
-after_append e [] ys = refl
-after_append e (x ∷ xs) ys = after_append (after e x) xs ys
+after_append e xs ys = fold-append after e xs ys
 
 pub meant_append : (e : Escaping) (xs ys : List ℕ) → meant_by e (xs ++ ys) ≡ meant_by e xs ++ meant_by (after_all e xs) ys
 unfolding after_all meant_by

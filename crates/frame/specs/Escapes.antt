@@ -1,5 +1,5 @@
 -- Reading the bytes between two flags, one after another.
-use Rattle.std.specs.Prelude.{ℕ, Bool, true, false, cond, ◌||◌, List, [], ◌∷◌, ◌++◌, Some, None, Option, ◌==◌}
+use Rattle.std.specs.Prelude.{ℕ, Bool, true, false, cond, ◌||◌, List, [], ◌∷◌, ◌++◌, Some, None, Option, fold, ◌==◌}
 use Rattle.std.specs.Option.{option_to_list}
 use Rattle.frame.specs.Framing.{flag, escape, escaped_flag, escaped_escape}
 use Rattle.frame.specs.declared.escaping.Escaping.{Escaping}
@@ -25,8 +25,7 @@ in_escape Broken = true
 
 -- where the reading stands after some bytes
 unfoldable pub after_all : Escaping → List ℕ → Escaping
-after_all e [] = e
-after_all e (b ∷ bs) = after_all (after e b) bs
+after_all e bs = fold after e bs
 
 -- the bytes that some bytes stand for
 unfoldable pub meant_by : Escaping → List ℕ → List ℕ

@@ -13,6 +13,7 @@ pub enum LineFault {
     Ownership = 5,
 }
 
+/// The fault's number.
 impl From<LineFault> for u8 {
     ghost from_gives = { λ fault number. number ≡ fault_number fault };
 

@@ -61,10 +61,11 @@ impl Digest {
 fn store(memory: &mut [u8], at: usize, byte: Option<u8>)
     ensures { memory.new ≡ stored byte at memory.old }
 {
-    if let Some(meant) = byte {
-        if at < MAX_PACKET && at < memory.len() {
-            memory[at] = meant;
-        }
+    if let Some(meant) = byte
+        && at < MAX_PACKET
+        && at < memory.len()
+    {
+        memory[at] = meant;
     }
 }
 

@@ -1,4 +1,4 @@
--- Which addresses a process may have. An address is its number.
+-- Which addresses a process may have, by their numbers.
 use Rattle.std.specs.Prelude.{ℕ, Bool, cond, ◌||◌, Ok, Err, Result, ◌==◌}
 use Rattle.refusals.specs.declared.Refusal.{Refusal}
 use Rattle.refusals.specs.declared.Refusal.TheVariants.{OwnAddress}

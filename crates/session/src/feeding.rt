@@ -21,7 +21,7 @@ pub struct Session<H> {
     reading: Option<Reading>,
 }
 
-/// Where the input is being read.
+/// What is kept while the input is being read.
 #[derive(Drop)]
 struct Reading {
     /// The text that is not ended yet.

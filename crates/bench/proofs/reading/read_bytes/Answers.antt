@@ -1,4 +1,8 @@
-use Rattle.std.proofs.Common.{◌≡◌, ◌+◌, ◌/◌, [], length, get_or, drop, Some, None, vec_items, sym, refl, ap, ◌∙◌, append-nil, rules}
+use Rattle.std.proofs.Common.{◌≡◌, ℕ, ◌+◌, ◌/◌, [], length, get_or, drop, Option, Some, None, Err, vec_items, sym, refl, ap, ◌∙◌, append-nil, arith, rules}
+use Rattle.std.proofs.lemmas.Result.{err_from_is_err_and}
+use Rattle.std.specs.Option.{ok_or}
+use Rattle.refusals.specs.declared.Refusal.{Refusal}
+use Rattle.refusals.specs.declared.Refusal.TheVariants.{BadLine}
 use Rattle.std.proofs.lemmas.List.{at_drop_more, at_drop_all}
 use Rattle.bench.specs.Hex.{pairs_read}
 use Rattle.bench.specs.Lines.{some_bytes}
@@ -21,14 +25,22 @@ whole c =
     let pairs = c.args.pairs.now in
     ap rows_read c.as_chunks.ensures.front ∙ rows_are (length pairs / 3) pairs (search rules)
 
-pub returns-in_default : goal.returns-in_default
-returns-in_default c =
+-- where an absent value gives an error, it was absent
+was_none : (o : Option ℕ) (why e : Refusal) → Err e ≡ ok_or o why → o ≡ None
+was_none None why e h = refl
+was_none (Some n) why e h = cc
+
+pub returns-in_err-byte : goal.returns-in_err-byte
+returns-in_err-byte c =
+    let p = err_from_is_err_and c.from_residual-in_err-byte.result c.from_residual-in_err-byte.ensures.1 in
     let rows = c.as_chunks.result.0.now in
     let i = c.loop-triple.triple-index in
-    let none = no_row_read (get_or rows i []) (drop (i + 1) rows) (sym c.spaced_byte.ensures ∙ c.in_default.is) in
+    let absent = was_none c.spaced_byte.result BadLine c.in_err-byte.field-0.0 c.in_err-byte.ensures.value in
+    let none = no_row_read (get_or rows i []) (drop (i + 1) rows) (sym c.spaced_byte.ensures ∙ absent) in
     let rest : rows_read (drop i rows) ≡ None = at_drop_more rows_read rows i [] c.loop-triple-test.true ∙ none in
-    let all = sym (whole (goal.at.returns-in_default c).In_ok-bytes) ∙ sym c.loop-triple.invariant.read in
-    (refl, ap some_bytes (all ∙ ap (prefixed (vec_items c.loop-triple.bytes)) rest))
+    let all = sym (whole (goal.at.returns-in_err-byte c).In_ok-bytes) ∙ sym c.loop-triple.invariant.read in
+    let bad : c.in_err-byte.field-0.0 ≡ BadLine = grind arith in
+    rw (p.1, p.2) (bad, ap some_bytes (all ∙ ap (prefixed (vec_items c.loop-triple.bytes)) rest))
 
 pub returns : goal.returns
 returns c =
