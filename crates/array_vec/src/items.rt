@@ -58,6 +58,7 @@ impl<T: Copy, const N: usize> ArrayVec<T, N> {
     }
 
     /// Puts an item at a place, in front of those from there on; where there is no such place, behind them all.
+    #[tactic(auto, using(crate::proofs::Edits::inserted))]
     pub fn insert(&mut self, at: usize, item: T) -> Result<(), Full>
         ensures told { is_ok result ≡ nat_lt (length (held self.old)) N }
         ensures after { held self.new ≡ (if is_ok result then insert (held self.old) at item else held self.old) }
@@ -83,6 +84,7 @@ impl<T: Copy, const N: usize> ArrayVec<T, N> {
     }
 
     /// Puts an item in the place of another, and gives that one; `None` where there is no such place.
+    #[tactic(auto, using(crate::proofs::Edits::take_set))]
     pub fn replace(&mut self, at: usize, item: T) -> Option<T>
         ensures told { result ≡ slice_get (held self.old) at }
         ensures after { held self.new ≡ slice_set (held self.old) at item }
