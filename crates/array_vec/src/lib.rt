@@ -19,7 +19,7 @@ pub struct ArrayVec<T, const N: usize> {
 
 impl<T: Copy, const N: usize> Copy for ArrayVec<T, N> {}
 
-// Written out, since a type with an invariant has no derived one.
+// Written out, since none is derived for a generic type with a ghost field.
 impl<T: Copy, const N: usize> Clone for ArrayVec<T, N> {
     ghost is_clone = { λ old new. new ≡ old };
 

@@ -28,7 +28,7 @@ pub trait Item<const SIZE: usize>: Copy {
     fn from_bytes(bytes: [u8; SIZE]) -> Self
         ensures { result ≡ item_in bytes.entry };
 
-    // Data are cut by the size: so it is not 0, and no more than data have.
+    // Data are cut by the size, so it is not 0; that it is small shows that data of it can be counted.
     ghost some: { 0 < SIZE };
 
     ghost few: { SIZE < 256 };
@@ -68,6 +68,7 @@ impl Item<6> for Assignment {
     }
 }
 
+/// An entry of a route table.
 impl Item<ENTRY_SIZE> for Entry {
     ghost item_in = { entry_in };
 

@@ -72,18 +72,23 @@ pub tells : (s : Subnet) (rs : List Route) (o : Option ℕ) → o ≡ position (
 tells s rs None e =
     let far : length rs ≤ position_or_len (of_subnet s) rs = found_at _ _ None e in
     let none : has_subnet s rs ≡ false = list_any_none (of_subnet s) rs (λ k d h. fails_before_first (of_subnet s) rs k d (omega arith)) in
-    (none, none_removes s rs none, find_at (of_subnet s) rs ∙ slice_get_past rs (position_or_len (of_subnet s) rs) far)
+    record {
+      none = none;
+      entry = find_at (of_subnet s) rs ∙ slice_get_past rs (position_or_len (of_subnet s) rs) far;
+      removal = none_removes s rs none;
+    }
 tells s rs (Some at) e =
     let p = position-Some (of_subnet s) rs at start_route (sym e) in
     let is : at ≡ position_or_len (of_subnet s) rs = found_at _ _ (Some at) e in
     let size : length (take at rs) ≡ at = length-take-le at rs (omega (arith, p.0)) in
     let before : has_subnet s (take at rs) ≡ false = or_from_places (has_subnet s) (of_subnet s) refl (λ _ _. refl) (take at rs) start_route
-    (λ i h. let lt : i < at = omega arith in ap (of_subnet s) (get_or-take at rs i start_route lt) ∙ p.2 i lt) in (
-      record { within = p.0; none_before = before; here = p.1 },
-      list_any_at (of_subnet s) rs at start_route p.0 p.1,
-      first_removes s rs at p.0 before p.1,
-      find_at (of_subnet s) rs ∙ ap (slice_get rs) (sym is),
-    )
+    (λ i h. let lt : i < at = omega arith in ap (of_subnet s) (get_or-take at rs i start_route lt) ∙ p.2 i lt) in
+    record {
+      first = record { within = p.0; none_before = before; here = p.1 };
+      there = list_any_at (of_subnet s) rs at start_route p.0 p.1;
+      entry = find_at (of_subnet s) rs ∙ ap (slice_get rs) (sym is);
+      removal = first_removes s rs at p.0 before p.1;
+    }
 
 -- ---- a new entry, taken back
 

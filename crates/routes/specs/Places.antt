@@ -18,8 +18,20 @@ pub record First (s : Subnet) (rs : List Route) (at : ℕ) : Type 0 where
   pub none_before : has_subnet s (take at rs) ≡ false
   pub here : of_subnet s (at_place rs at) ≡ true
 
--- what finding the entry for a subnet says of the subnet, of its removal and of the entry that goes
+-- no entry is there for the subnet, and so none can be removed
+pub record Missing (s : Subnet) (rs : List Route) : Type 0 where
+  pub none : has_subnet s rs ≡ false
+  pub entry : find (of_subnet s) rs ≡ None
+  pub removal : remove s rs ≡ None
+
+-- the entry for the subnet stands at the place, and removing it takes out that one
+pub record Stands (s : Subnet) (rs : List Route) (at : ℕ) : Type 0 where
+  pub first : First s rs at
+  pub there : has_subnet s rs ≡ true
+  pub entry : find (of_subnet s) rs ≡ slice_get rs at
+  pub removal : remove s rs ≡ Some (removed rs at)
+
+-- what finding the entry for a subnet tells
 abbrev pub Tells : Subnet → List Route → Option ℕ → Type 0
-Tells s rs None = (has_subnet s rs ≡ false) × (remove s rs ≡ None) × (find (of_subnet s) rs ≡ None)
-Tells s rs (Some at) =
-    First s rs at × (has_subnet s rs ≡ true) × (remove s rs ≡ Some (removed rs at)) × (find (of_subnet s) rs ≡ slice_get rs at)
+Tells s rs None = Missing s rs
+Tells s rs (Some at) = Stands s rs at

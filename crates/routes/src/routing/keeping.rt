@@ -22,31 +22,29 @@ const START: Route = Route {
     life: 0,
 };
 
-/// The routes that a node starts with.
-impl Default for Routes {
-    ghost is_default = { λ r. routes_of r ≡ start_routes };
-
-    #[tactic(auto, using(crate::proofs::Acceptances::start_acceptable))]
-    fn default() -> Routes {
-        Routes {
-            table: Table::only(START),
-        }
-    }
-}
-
 /// The routes of a table; where it is empty, those that a node starts with.
 impl From<Table> for Routes {
     ghost from_gives = { λ t r. routes_of r ≡ refilled (listed t) };
 
     fn from(table: Table) -> Routes {
         if table.entries().is_empty() {
-            return Routes::default();
+            return Routes::new();
         }
         Routes { table }
     }
 }
 
 impl Routes {
+    /// The routes that a node starts with.
+    #[tactic(auto, using(crate::proofs::Acceptances::start_acceptable))]
+    pub fn new() -> Routes
+        ensures { routes_of result ≡ start_routes }
+    {
+        Routes {
+            table: Table::only(START),
+        }
+    }
+
     /// A table with these routes, for a request to work on.
     pub fn table(&self) -> Table
         ensures { listed result ≡ routes_of self.now }
