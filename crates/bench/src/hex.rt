@@ -25,6 +25,7 @@ impl fmt::Display for Pairs<'_> {
     ghost output = { λ x. Some (spaced_pairs x.0.now) };
 
     fn fmt<W: fmt::Write>(&self, f: &mut fmt::Formatter<W>) -> fmt::Result {
+        // A `for`: of `try_for_each` nothing would be known of what its closure wrote.
         for byte in self.0 {
             write!(f, " {}", Hex(*byte))?;
         }
@@ -32,7 +33,7 @@ impl fmt::Display for Pairs<'_> {
     }
 }
 
-/// The digit that a character writes, if it writes one.
+/// The digit that a character writes, if it writes one. Lower case writes none, so `to_digit` would take too much.
 fn digit_value(character: u8) -> Option<u8>
     ensures { result ≡ hex_value character }
 {

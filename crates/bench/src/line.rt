@@ -60,6 +60,7 @@ pub enum NotRead {
     NoMemory,
 }
 
+// The three are written out, since contracts name the case that each gives.
 impl From<Refusal> for NotRead {
     ghost from_gives = { λ why r. r ≡ Refused why };
 

@@ -37,6 +37,7 @@ fn read_bytes(heap: Global, pairs: &[u8]) -> Result<Line, NotRead>
         return Err(BAD_LINE);
     }
     let mut bytes = Vec::with_capacity(heap, triples.len())?;
+    // Pushed and not collected: the library tells nothing of what an `Option` collects.
     for triple in triples {
         let byte = spaced_byte(triple).ok_or(Refusal::BadLine)?;
         bytes.push(byte)?;

@@ -24,6 +24,7 @@ pub fn can_set_all<D: Device>(device: &D, assignments: &[Assignment]) -> bool
 fn offer_each<D: Device>(device: &mut D, assignments: &[Assignment])
     ensures { D.means device.new ≡ offered_all (D.means device.old) assignments.now }
 {
+    // A `for`: of `for_each` nothing would be known of what its closure changed.
     for a in assignments {
         let _ = device.set(a.address, a.value);
     }

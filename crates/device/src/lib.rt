@@ -56,7 +56,7 @@ pub struct MemoryByte {
 }
 
 /// A device, known by what it means. Questions and refusals change nothing; an accepted change makes one present value the given one
-/// and leaves all else.
+/// and leaves all else. Where a refusal has no reason to tell, the answer is a `bool`.
 pub trait Device {
     ghost means: { Self → Meaning };
 

@@ -28,6 +28,7 @@ fn measure(segment: &[u8]) -> Result<usize, NotUnescaped>
     }
     let mut escaping = Escaping::Outside;
     let mut count = 0;
+    // A `for`: a `fold` would have to bound the count in its closure.
     for byte in segment {
         let (next, meant) = escaping.step(*byte);
         escaping = next;

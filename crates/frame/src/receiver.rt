@@ -34,7 +34,7 @@ impl Digest {
         memory.get(..self.kept()).unwrap_or(memory)
     }
 
-    /// Of a segment with no bytes.
+    /// Of a segment with no bytes: no derived `Default`, whose count would be that of too many.
     fn empty() -> Digest
         ensures { result ≡ blank }
     {
@@ -57,7 +57,8 @@ impl Digest {
     }
 }
 
-/// Stores an unescaped byte, if there is one, at its place, if it belongs to the longest packet.
+/// Stores an unescaped byte, if there is one, at its place, if it belongs to the longest packet. Behind `get_mut` no element would be
+/// known to a proof.
 fn store(memory: &mut [u8], at: usize, byte: Option<u8>)
     ensures { memory.new ≡ stored byte at memory.old }
 {

@@ -5,7 +5,8 @@ ghost use Rattle.packet.specs.Addresses.{forbidden};
 use frame::{ESCAPE, FLAG};
 use refusals::Refusal;
 
-/// The address of a process: any byte but 0, the flag and the escape.
+/// The address of a process: any byte but 0, the flag and the escape. It has no model: a type that holds addresses would then not be
+/// copied in proofs.
 #[derive(Clone, Copy, PartialEq, Eq, Debug)]
 pub struct Address {
     number: u8,

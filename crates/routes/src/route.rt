@@ -45,7 +45,8 @@ impl Subnet {
         dest & self.mask == self.network
     }
 
-    /// Whether the entry for the subnet stands before that for another one.
+    /// Whether the entry for the subnet stands before that for another one. This is no `Ord`, which would have to tell apart all that `==`
+    /// does.
     pub(crate) fn is_before(self, other: Subnet) -> bool
         ensures { result ≡ stands_before self other }
     {

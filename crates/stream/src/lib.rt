@@ -12,6 +12,7 @@ const PART: usize = 4096;
 pub fn obey_input<H: Obey + Drop>(rt: &HostRuntime, handler: H) -> anyhow::Result<()> {
     let mut input = rt.stdin();
     let mut session = Session::new(rt.alloc(), handler);
+    // The input's end is not known before it comes.
     for _ in 0..u64::MAX {
         let mut part = [0u8; PART];
         let read = input.read(&mut part)?;

@@ -98,6 +98,7 @@ impl Counts {
     fn set_each(&mut self, assignments: &[Assignment])
         ensures { self.new ≡ counts_put assignments.now self.old }
     {
+        // A `for`: of `for_each` nothing would be known of what its closure changed.
         for a in assignments {
             self.set(usize::from(a.address), a.value);
         }

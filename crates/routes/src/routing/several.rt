@@ -23,6 +23,7 @@ fn put_each(table: Table, entries: &[Entry]) -> Result<Table, NotPut>
     ensures { listed_in result ≡ added entries.now (listed table) }
 {
     let mut longer = table;
+    // A `for`, here and below: `try_fold` would move the table in and out of a closure.
     for e in entries {
         longer.put(e.route)?;
     }
