@@ -1,5 +1,5 @@
 //! What a table holds, and where.
-ghost use Rattle.std.specs.Prelude.{◌≡◌, true};
+ghost use Rattle.std.specs.Prelude.{◌≡◌, ◌≤◌, true, length};
 ghost use Rattle.std.specs.List.{insert};
 ghost use Rattle.routes.specs.Acceptable.{is_port};
 ghost use Rattle.routes.specs.Insert.{placed};
@@ -31,7 +31,8 @@ impl Table {
 
     /// Where a new entry belongs: in front of the first one that it stands before.
     pub(super) fn place_for(&self, new: Route) -> usize
-        ensures { placed new (listed self.now) ≡ insert (listed self.now) result new }
+        ensures within { result ≤ length (listed self.now) }
+        ensures is { placed new (listed self.now) ≡ insert (listed self.now) result new }
     {
         let entries = self.entries();
         entries

@@ -9,8 +9,8 @@ use Rattle.routes.specs.declared.route.Route.{Route}
 use Rattle.routes.proofs.Placing.{placed_in}
 use Rattle.routes.proofs.table.Table.place_for.Goals as goal
 
-pub returns : goal.returns
-returns c =
+pub returns-clause-is : goal.returns-clause-is
+returns-clause-is c =
     let r = c.args.new in
     let all = c.entries-entries.result.now in
     let found : c.position.result ≡ position (before r) all =
