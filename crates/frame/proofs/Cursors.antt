@@ -1,26 +1,11 @@
 -- What a cursor wrote and what it leaves, piece after piece.
-use Rattle.std.proofs.Common.{◌≡◌, ℕ, ◌+◌, ◌-◌, ◌≤◌, List, [], ◌++◌, true, Result, Ok, Err, length, take, drop, sym, ap, ◌∙◌, append_assoc, arith, length-append, length-take, length-drop}
-use borrow.Rule.Slice.PartMut.{put_mid}
-use Rattle.std.proofs.lemmas.List.{take_at, drop_at, drop-drop, take-append-drop}
+use Rattle.std.proofs.Common.{◌≡◌, ℕ, ◌-◌, List, [], ◌++◌, true, Result, Ok, Err, length, drop, sym, ap, ◌∙◌, length-append, length-drop}
+use Rattle.std.proofs.lemmas.List.{drop-drop, take-append-drop}
 use Rattle.std.specs.Result.{OnOk, is_ok}
 use Rattle.refusals.specs.declared.Refusal.{Refusal}
 use Rattle.frame.specs.Buffer.{laid}
 use Rattle.frame.specs.Cursor.{written, rest, Puts}
 use Rattle.frame.specs.declared.cursor.Cursor.{Cursor}
-
--- bytes that are copied into a list right behind its front
-module _ (at k : ℕ) (was src bytes : List ℕ) (same : src ≡ bytes) (room : at ≤ length was) (all : k ≡ length bytes) where
-  regrouped : put_mid at k was src ≡ (take at was ++ bytes) ++ drop k (drop at was)
-  regrouped = (λ i. take at was ++ (same i ++ drop k (drop at was))) ∙ sym (append_assoc (take at was) bytes (drop k (drop at was)))
-
-  long : length (take at was ++ bytes) ≡ at + length bytes
-  long = omega (arith, length-append (take at was) bytes, length-take at was)
-
-  pub take-put_mid : take (at + length bytes) (put_mid at k was src) ≡ take at was ++ bytes
-  take-put_mid = ap (take (at + length bytes)) regrouped ∙ take_at (take at was ++ bytes) (drop k (drop at was)) (at + length bytes) long
-
-  pub drop-put_mid : drop (at + length bytes) (put_mid at k was src) ≡ drop (length bytes) (drop at was)
-  drop-put_mid = ap (drop (at + length bytes)) regrouped ∙ drop_at (take at was ++ bytes) (drop k (drop at was)) (at + length bytes) long ∙ ap (λ (n : ℕ). drop n (drop at was)) all
 
 -- the cursor wrote `front` over a buffer that held `was`
 pub record Wrote (c : Cursor) (front was : List ℕ) : Type 0 where
