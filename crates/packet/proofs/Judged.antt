@@ -57,7 +57,7 @@ few_is_none : (u : List ℕ) → is_none (few u) ≡ ltb max_packet (length u)
 few_is_none u = cond_both (ltb max_packet (length u)) None (Some (length u)) (λ o. is_none o ≡ ltb max_packet (length u)) sym sym
 
 -- what a receiver kept is judged as the segment itself
-kept_is_judged : (station : Station) (d : Digest) (memory : List ℕ) (s : Segment) → Holds d memory s
+pub kept_is_judged : (station : Station) (d : Digest) (memory : List ℕ) (s : Segment) → Holds d memory s
     → judge_kept station d (take (kept d) memory) ≡ judge station s
 unfolding judge
 kept_is_judged station d memory s h =

@@ -4,7 +4,8 @@ use Rattle.refusals.specs.declared.Refusal.{Refusal}
 use Rattle.refusals.specs.declared.Refusal.TheVariants.{ShortBuffer, TooMuchData}
 use Rattle.frame.specs.Buffer.{laid}
 use Rattle.packet.specs.Limits.{min_packet, max_data}
-use Rattle.packet.specs.Packets.{headed, packed}
+use Rattle.packet.specs.Packets.{packed}
+pub use Rattle.packet.specs.Packets.{headed}
 use Rattle.packet.specs.Reading.{read}
 use Rattle.packet.specs.declared.writer.Header.{Header}
 

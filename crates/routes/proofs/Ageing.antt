@@ -7,6 +7,7 @@ use Rattle.routes.specs.Start.{start_route}
 use Rattle.routes.specs.Places.{at_place}
 use Rattle.routes.specs.Ageing.{older, aged}
 use Rattle.routes.specs.declared.route.Route.{Route}
+pub use Rattle.routes.proofs.Acceptances.{not_longer}
 
 -- one entry more, if it stays
 pub aged_more : (step : ℕ) (rs : List Route) (i : ℕ) (left : List Route) (o : Option Route) → i < length rs → left ≡ aged step (take i rs) → o ≡ older step (at_place rs i)

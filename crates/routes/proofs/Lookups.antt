@@ -62,7 +62,7 @@ best_later r rs dest y f b = record {
       ];
 }
 
-most_specific : (rs : List Route) (dest : ℕ) → sorted rs ≡ true → MostSpecific rs dest (port_for rs dest)
+pub most_specific : (rs : List Route) (dest : ℕ) → sorted rs ≡ true → MostSpecific rs dest (port_for rs dest)
 most_specific [] dest e = inr (λ x h. absurd (omega (arith, h.1)), refl)
 most_specific (r ∷ rs) dest e =
     let s = first_sorted r rs e in

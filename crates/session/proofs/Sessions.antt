@@ -54,7 +54,7 @@ module _ {H : Type 0} (obeyed : H → List LineValue → Type 0) (writes : List 
     }
 
   -- a line was obeyed
-  takes_line : (handler : H) (s' : Session H) (ts : List (List ℕ)) (t : List ℕ) (v : LineValue) (out : String Global) (r r' : Reading)
+  pub takes_line : (handler : H) (s' : Session H) (ts : List (List ℕ)) (t : List ℕ) (v : LineValue) (out : String Global) (r r' : Reading)
       → obeyed handler (lines_in ts) → Reads r ts t → line_read t ≡ Some v
       → ((vs : List LineValue) → obeyed handler vs → obeyed s'.handler (vs ++ v ∷ []) × (writes (vs ++ v ∷ []) ≡ writes vs ++ string_bytes out))
       → s'.reading ≡ Some r' → vec_items r'.text ≡ [] → r'.count ≡ r.count + 1
@@ -73,7 +73,7 @@ module _ {H : Type 0} (obeyed : H → List LineValue → Type 0) (writes : List 
       }
 
   -- a text that is no line stopped the session
-  takes_bad : (s' : Session H) (ts : List (List ℕ)) (t : List ℕ) (out : String Global) (r : Reading)
+  pub takes_bad : (s' : Session H) (ts : List (List ℕ)) (t : List ℕ) (out : String Global) (r : Reading)
       → obeyed s'.handler (lines_in ts) → Reads r ts t → line_read t ≡ None → s'.reading ≡ None
       → string_bytes out ≡ bad_text (Some (r.count + 1))
       → Takes obeyed writes s' ts (t ∷ []) [] out
@@ -88,16 +88,28 @@ module _ {H : Type 0} (obeyed : H → List LineValue → Type 0) (writes : List 
             ∙ (λ i. sym (said_before ts t reads.lines) i ++ sym text i);
       }
 
+  -- a session that stands so keeps the text `t`
+  kept_text : (s : Session H) (ts : List (List ℕ)) (t : List ℕ) → Stands obeyed s ts t → (r : Reading) → s.reading ≡ Some r → vec_items r.text ≡ t
+  kept_text s ts t h r is = (reads_from s ts t r is h).text
+
+  -- and one that keeps another text stands at that one
+  reads_text : (o : Option Reading) (ts : List (List ℕ)) (t t' : List ℕ) → MatchOption o (IsSome (first_bad 1 ts)) (λ r. Reads r ts t)
+      → ((r : Reading) → o ≡ Some r → vec_items r.text ≡ t') → MatchOption o (IsSome (first_bad 1 ts)) (λ r. Reads r ts t')
+  reads_text None ts t t' bad text = bad
+  reads_text (Some r) ts t t' reads text = record { lines = reads.lines; text = text r refl; count = reads.count }
+
   -- nothing was taken
-  takes_none : (s : Session H) (ts : List (List ℕ)) (t : List ℕ) (out : String Global) → string_bytes out ≡ []
-      → Stands obeyed s ts t → Takes obeyed writes s ts [] t out
-  takes_none s ts t out silent h = record {
-    stands = subst (λ (l : List (List ℕ)). Stands obeyed s l t) (sym (append-nil ts)) h;
+  pub takes_none : (s : Session H) (ts : List (List ℕ)) (t t' : List ℕ) (out : String Global) → string_bytes out ≡ []
+      → Stands obeyed s ts t → ((r : Reading) → s.reading ≡ Some r → vec_items r.text ≡ t') → Takes obeyed writes s ts [] t' out
+  takes_none s ts t t' out silent h text = record {
+    stands =
+        subst (λ (l : List (List ℕ)). Stands obeyed s l t') (sym (append-nil ts))
+        (record { obeyed_lines = h.obeyed_lines; reading = reads_text s.reading ts t t' h.reading text });
     wrote = ap (output writes) (append-nil ts) ∙ sym (append-nil (output writes ts)) ∙ ap (λ (l : List ℕ). output writes ts ++ l) (sym silent);
   }
 
   -- a session that is stopped takes anything, and writes nothing
-  takes_ignored : (s s' : Session H) (ts more : List (List ℕ)) (t t' : List ℕ) (out : String Global) → string_bytes out ≡ []
+  pub takes_ignored : (s s' : Session H) (ts more : List (List ℕ)) (t t' : List ℕ) (out : String Global) → string_bytes out ≡ []
       → s.reading ≡ None → s'.handler ≡ s.handler → s'.reading ≡ None → Stands obeyed s ts t → Takes obeyed writes s' ts more t' out
   takes_ignored s s' ts more t t' out silent off handler off' h =
       let over = bad_from s ts t off h in
@@ -167,8 +179,9 @@ module _ {H : Type 0} (obeyed : H → List LineValue → Type 0) (writes : List 
     byte_kept s' out silent e handler reading' ts t room stands =
         let c = cut_later t b (test_at ts t false e stands) in
         let lines = subst (λ (x : H). obeyed x (lines_in ts)) (sym handler) stands.obeyed_lines in
+        let on = stands_reading s' ts (t ++ b ∷ []) r' reading' lines (reads_pushed ts t stands) in
         takes_same s' ts [] (cut t (b ∷ [])) (t ++ b ∷ []) (uncut t (b ∷ [])) out (sym c.0) (sym c.1)
-        (takes_none s' ts (t ++ b ∷ []) out silent (stands_reading s' ts (t ++ b ∷ []) r' reading' lines (reads_pushed ts t stands)))
+        (takes_none s' ts (t ++ b ∷ []) (t ++ b ∷ []) out silent on (kept_text s' ts (t ++ b ∷ []) on))
 
   pub byte_ignored : (s s' : Session H) (b : ℕ) (out : String Global) → string_bytes out ≡ [] → s.reading ≡ None → s'.handler ≡ s.handler → s'.reading ≡ None
       → TakesBytes obeyed writes s (b ∷ []) s' out
@@ -179,7 +192,7 @@ module _ {H : Type 0} (obeyed : H → List LineValue → Type 0) (writes : List 
 
   pub takes_nothing : (s : Session H) (out : String Global) → string_bytes out ≡ [] → TakesBytes obeyed writes s [] s out
   unfolding cut uncut
-  takes_nothing s out silent ts t room stands = takes_none s ts t out silent stands
+  takes_nothing s out silent ts t room stands = takes_none s ts t t out silent stands (kept_text s ts t stands)
 
   pub takes_on : (s s' s'' : Session H) (xs ys : List ℕ) (one two both : String Global) → TakesBytes obeyed writes s xs s' one → TakesBytes obeyed writes s' ys s'' two
       → string_bytes both ≡ string_bytes one ++ string_bytes two → TakesBytes obeyed writes s (xs ++ ys) s'' both
@@ -221,7 +234,7 @@ module _ {H : Type 0} (obeyed : H → List LineValue → Type 0) (writes : List 
       finishes_empty out silent none input room fed =
           let reads = reads_from s (cut [] input) (uncut [] input) r reading fed in
           let left : uncut [] input ≡ [] = sym reads.text ∙ nil_from_length (vec_items r.text) none in
-          ap (λ (t : List ℕ). output writes (cut [] input ++ last_text t)) left ∙ (takes_none s (cut [] input) (uncut [] input) out silent fed).wrote
+          ap (λ (t : List ℕ). output writes (cut [] input ++ last_text t)) left ∙ (takes_none s (cut [] input) (uncut [] input) (uncut [] input) out silent fed (kept_text s (cut [] input) (uncut [] input) fed)).wrote
 
       pub finishes_text : (s' : Session H) (told : Result (String Global) AllocError) → (length (vec_items r.text) ≡ 0 → ⊥) → EndsText obeyed writes s.handler r told s'
           → IfOk told (Finishes obeyed writes s)
