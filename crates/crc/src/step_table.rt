@@ -1,15 +1,17 @@
 // A table of what eight steps make of the register, and the step of a byte that looks one up.
-ghost use Rattle.std.specs.Prelude.{◌≡◌, ◌*◌, ◌<◌, true};
+ghost use Rattle.std.specs.Prelude.{◌≡◌, ◌*◌, ◌<◌, ◌≤◌, true, length};
 ghost use Rattle.crc.specs.Crc.{bits_entered};
 ghost use Rattle.crc.specs.Tables.{tabulates};
 
 use crate::{Method, table_index};
 
 /// At each place, what eight steps make of a register that holds `SCALE` times the place. The rule is tested over the whole
-/// table where one is written down.
+/// table where one is written down. It is borrowed: the entries stand in the program once, and are not laid anew at each look-up.
 pub struct StepTable<const N: usize, const SCALE: u16> {
-    pub entries: [u16; N],
-    ghost rule: { tabulates SCALE entries ≡ true },
+    pub entries: &'static [u16; N],
+    ghost whole: { length entries.now ≡ N },
+    ghost few: { N ≤ 256 },
+    ghost rule: { tabulates SCALE entries.now ≡ true },
 }
 
 impl<const N: usize, const SCALE: u16> StepTable<N, SCALE> {
