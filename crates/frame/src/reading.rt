@@ -23,13 +23,13 @@ pub enum NotUnescaped {
 fn measure(segment: &[u8]) -> Result<usize, NotUnescaped>
     ensures { result ≡ measured segment.now }
 {
-    if segment.contains(&FLAG) {
-        return Err(NotUnescaped::HasFlag);
-    }
     let mut escaping = Escaping::Outside;
     let mut count = 0;
     // A `for`: a `fold` would have to bound the count in its closure.
     for byte in segment {
+        if *byte == FLAG {
+            return Err(NotUnescaped::HasFlag);
+        }
         let (next, meant) = escaping.step(*byte);
         escaping = next;
         if meant.is_some() {
@@ -52,8 +52,10 @@ fn lay_unescaped(segment: &[u8], out: &mut [u8])
     for byte in segment {
         let (next, meant) = escaping.step(*byte);
         escaping = next;
-        // the buffer has room, as is required
-        let _ = cursor.put(meant.as_slice());
+        if let Some(unescaped) = meant {
+            // the buffer has room, as is required
+            let _ = cursor.put(&[unescaped]);
+        }
     }
 }
 

@@ -20,6 +20,10 @@ fn escaped_len(byte: u8) -> usize
 fn outgrows(packet: &[u8], room: usize) -> bool
     ensures { result ≡ nat_lt room (length (framed packet.now)) }
 {
+    // Each byte takes one at least, so the work is bounded by the room: a longer packet is not looked at.
+    if room < packet.len() {
+        return true;
+    }
     // The flags are taken off the room, since a frame may be too long for a usize, and the bytes inside are not.
     let inside: usize = packet.iter().map(|byte| escaped_len(*byte)).sum();
     room < 2 || room - 2 < inside
