@@ -1,5 +1,5 @@
 -- A session that takes an input, part by part.
-use Rattle.std.specs.Prelude.{◌≡◌, ℕ, ◌+◌, ◌^◌, ◌<◌, Bool, List, [], ◌∷◌, ◌++◌, length, is_none, IsSome, IfOk, None, vec_items, string_bytes, Result, String}
+use Rattle.std.specs.Prelude.{◌≡◌, ℕ, ◌+◌, ◌^◌, ◌<◌, Bool, List, [], ◌∷◌, ◌++◌, length, is_none, IsSome, IfOk, None, vec_items, string_bytes, Option, Result, String}
 use Rattle.std.specs.Option.{MatchOption}
 use Rattle.std.specs.declared.alloc.AllocError.{AllocError}
 use Rattle.std.specs.declared.alloc.Global.{Global}
@@ -46,6 +46,11 @@ EndsText obeyed writes handler r told s' =
 abbrev pub TakesBytes : {H : Type 0} → (H → List LineValue → Type 0) → (List LineValue → List ℕ) → Session H → List ℕ → Session H → String Global → Type 0
 TakesBytes obeyed writes s bytes s' out =
     (ts : List (List ℕ)) (t : List ℕ) → length ts + length bytes < 2 ^ 64 → Stands obeyed s ts t → Takes obeyed writes s' ts (cut t bytes) (uncut t bytes) out
+
+-- one byte was taken, and what this wrote was told, or that nothing was
+abbrev pub TakesByte : {H : Type 0} → (H → List LineValue → Type 0) → (List LineValue → List ℕ) → Session H → ℕ → Session H → Option (String Global) → Type 0
+TakesByte obeyed writes s b s' told =
+    MatchOption told ((out : String Global) → string_bytes out ≡ [] → TakesBytes obeyed writes s (b ∷ []) s' out) (TakesBytes obeyed writes s (b ∷ []) s')
 
 -- a session that was fed an input is fed a part more, and writes what this adds
 abbrev pub Feeds : {H : Type 0} → (H → List LineValue → Type 0) → (List LineValue → List ℕ) → Session H → List ℕ → Session H → String Global → Type 0

@@ -1,11 +1,11 @@
 //! A session: an input is cut into lines as it comes, and each is obeyed.
-ghost use Rattle.std.specs.Prelude.{◌≡◌, ℕ, ◌+◌, ◌^◌, ◌<◌, List, [], ◌∷◌, ◌++◌, length, is_some, IfOk, Some, string_bytes};
-ghost use Rattle.std.specs.Option.{option_map};
+ghost use Rattle.std.specs.Prelude.{◌≡◌, ⊤, ℕ, ◌+◌, ◌^◌, ◌<◌, List, [], ◌++◌, length, is_some, IfOk, Some, string_bytes};
+ghost use Rattle.std.specs.Option.{MatchOption, option_map};
 ghost use Rattle.bench.specs.Lines.{line_read};
 ghost use Rattle.bench.specs.Values.{value_of};
 ghost use Rattle.session.specs.Texts.{ends_text as text_ends, cut, texts};
 ghost use Rattle.session.specs.Obeying.{first_bad, bad_text, output};
-ghost use Rattle.session.specs.Sessions.{is_stopped, Fed, EndsText, TakesBytes, Feeds, Finishes};
+ghost use Rattle.session.specs.Sessions.{is_stopped, Fed, EndsText, TakesByte, Feeds, Finishes};
 
 use crate::obey::Obey;
 use bench::MAX_LINE;
@@ -71,38 +71,41 @@ impl<H: Obey + Drop> Session<H> {
         }
     }
 
-    /// Ends the text that was being read: obeys it as a line, or stops.
-    fn end_text(&mut self, reading: Reading) -> Result<String, AllocError>
-        ensures { EndsText H.obeyed H.writes self.old.handler reading result self.new }
+    /// Ends the text that is being read, if one is: obeys it as a line, or stops. The text and the count stay where they are: to take them
+    /// out and back would move them for each line.
+    fn end_text(&mut self) -> Result<String, AllocError>
+        ensures { MatchOption self.old.reading ⊤ (λ r. EndsText H.obeyed H.writes self.old.handler r result self.new) }
     {
-        let Reading { mut text, count } = reading;
-        let number = count.saturating_add(1);
-        let Some(line) = read_text(self.heap, text.as_slice())? else {
-            self.reading = None;
-            return bad(self.heap, number);
-        };
-        text.clear();
-        self.reading = Some(Reading {
-            text,
-            count: number,
-        });
-        self.handler.obey(self.heap, &line)
+        match &mut self.reading {
+            Some(reading) => {
+                let number = reading.count.saturating_add(1);
+                let Some(line) = read_text(self.heap, reading.text.as_slice())? else {
+                    self.reading = None;
+                    return bad(self.heap, number);
+                };
+                reading.text.clear();
+                reading.count = number;
+                self.handler.obey(self.heap, &line)
+            }
+            None => Ok(String::new(self.heap)),
+        }
     }
 
-    /// Takes one byte, and tells what this writes.
-    fn byte(&mut self, byte: u8) -> Result<String, AllocError>
-        ensures { IfOk result (TakesBytes H.obeyed H.writes self.old (byte ∷ []) self.new) }
+    /// Takes one byte, and tells what this writes, if it ends a text.
+    fn byte(&mut self, byte: u8) -> Result<Option<String>, AllocError>
+        ensures { IfOk result (TakesByte H.obeyed H.writes self.old byte self.new) }
     {
-        let Some(mut reading) = self.reading.take() else {
-            return Ok(String::new(self.heap));
-        };
-        let ends = ends_text(reading.text.len(), byte);
-        reading.text.push(byte)?;
-        if ends {
-            return self.end_text(reading);
+        match &mut self.reading {
+            Some(reading) => {
+                let ends = ends_text(reading.text.len(), byte);
+                reading.text.push(byte)?;
+                if !ends {
+                    return Ok(None);
+                }
+            }
+            None => return Ok(None),
         }
-        self.reading = Some(reading);
-        Ok(String::new(self.heap))
+        Ok(Some(self.end_text()?))
     }
 
     /// Feeds a part of the input, and tells what its lines write. A session that runs out of memory is gone.
@@ -111,8 +114,9 @@ impl<H: Obey + Drop> Session<H> {
     {
         let mut out = String::new(self.heap);
         for byte in chunk {
-            let text = self.byte(*byte)?;
-            out.push_str(text.as_str())?;
+            if let Some(text) = self.byte(*byte)? {
+                out.push_str(text.as_str())?;
+            }
         }
         Ok((self, out))
     }
@@ -129,8 +133,8 @@ impl<H: Obey + Drop> Session<H> {
     pub fn finish(mut self) -> Result<String, AllocError>
         ensures { IfOk result (Finishes H.obeyed H.writes self) }
     {
-        match self.reading.take() {
-            Some(reading) if !reading.text.is_empty() => self.end_text(reading),
+        match &self.reading {
+            Some(reading) if !reading.text.is_empty() => self.end_text(),
             _ => Ok(String::new(self.heap)),
         }
     }
