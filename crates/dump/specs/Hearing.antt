@@ -1,6 +1,7 @@
 -- A monitor that hears what comes over the line, and what is written of the segments that this closes.
-use Rattle.std.specs.Prelude.{◌≡◌, List, length, string_bytes, String}
+use Rattle.std.specs.Prelude.{◌≡◌, List, [], ◌∷◌, length, string_bytes, Option, String}
 use Rattle.std.specs.List.{flat_map}
+use Rattle.std.specs.Option.{MatchOption}
 use Rattle.std.specs.declared.alloc.Global.{Global}
 use Rattle.frame.specs.Limits.{max_packet}
 use Rattle.frame.specs.Segment.{Segment}
@@ -19,3 +20,8 @@ abbrev pub Hears : BusMonitor → List Arrival → BusMonitor → String Global 
 Hears was came is text =
     (s : Segment) → HoldsSegment was s
     → HoldsSegment is (left_open s came) × (string_bytes text ≡ flat_map segment_text (closed s came))
+
+-- one thing came, and the text of the segment that it closed was told, or that it closed none
+abbrev pub HearsOne : BusMonitor → Arrival → BusMonitor → Option (String Global) → Type 0
+HearsOne was came is told =
+    MatchOption told ((text : String Global) → string_bytes text ≡ [] → Hears was (came ∷ []) is text) (Hears was (came ∷ []) is)

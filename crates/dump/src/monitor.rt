@@ -1,10 +1,10 @@
 //! A monitor of the bus, which obeys the lines of a recording: it hears every packet, and tells what every segment is.
-ghost use Rattle.std.specs.Prelude.{[], ◌∷◌, map, IfOk};
+ghost use Rattle.std.specs.Prelude.{[], map, IfOk};
 ghost use Rattle.frame.specs.Arrivals.Arrival.{byte as byte_came};
 ghost use Rattle.bench.specs.Lines.LineValue.{bytes as bytes_came};
 ghost use Rattle.session.specs.Obeying.{Obeys};
 ghost use Rattle.dump.specs.Dumped.{dumped};
-ghost use Rattle.dump.specs.Hearing.{Hears};
+ghost use Rattle.dump.specs.Hearing.{Hears, HearsOne};
 ghost use Rattle.dump.specs.Monitored.{Heard};
 ghost use Rattle.dump.specs.Silent.{silent_start};
 
@@ -34,17 +34,17 @@ impl BusMonitor {
         }
     }
 
-    /// Hears one byte, and tells the text of the segment that it closes.
-    fn hear(&mut self, heap: Global, byte: u8) -> Result<String, AllocError>
-        ensures { IfOk result (Hears self.old (byte_came byte ∷ []) self.new) }
+    /// Hears one byte, and tells the text of the segment that it closes, if it closes one.
+    fn hear(&mut self, heap: Global, byte: u8) -> Result<Option<String>, AllocError>
+        ensures { IfOk result (HearsOne self.old (byte_came byte) self.new) }
     {
         match self.receiver.byte(byte, &mut self.memory) {
             Ok(Some(digest)) => {
                 let verdict = Verdict(Station::Monitor.judge(digest, &self.memory));
-                format!(in heap; "{verdict}")
+                Ok(Some(format!(in heap; "{verdict}")?))
             }
             // it is never refused: the memory is long enough
-            Ok(None) | Err(_) => Ok(String::new(heap)),
+            Ok(None) | Err(_) => Ok(None),
         }
     }
 
@@ -54,8 +54,9 @@ impl BusMonitor {
     {
         let mut out = String::new(heap);
         for byte in bytes {
-            let text = self.hear(heap, *byte)?;
-            out.push_str(text.as_str())?;
+            if let Some(text) = self.hear(heap, *byte)? {
+                out.push_str(text.as_str())?;
+            }
         }
         Ok(out)
     }
