@@ -78,20 +78,24 @@ impl Counts {
         }
     }
 
-    /// Counts a dropped segment.
+    /// Counts a dropped segment. The field is looked at in the end, here and below, so that a proof knows of the nine.
     pub fn count_drop(&mut self, cause: DropCause)
-        ensures { self.new ≡ cause_counted cause self.old }
+        ensures after { self.new ≡ cause_counted cause self.old }
+        ensures nine { length self.new ≡ count_of_counts }
     {
         if let Some(address) = count_of(cause) {
             self.add_one(address);
         }
+        let _ = &self.values;
     }
 
     /// Counts a line fault.
     pub fn count_fault(&mut self, fault: LineFault)
-        ensures { self.new ≡ fault_counted fault self.old }
+        ensures after { self.new ≡ fault_counted fault self.old }
+        ensures nine { length self.new ≡ count_of_counts }
     {
         self.add_one(usize::from(u8::from(fault)));
+        let _ = &self.values;
     }
 
     /// Sets each count in turn.
@@ -108,11 +112,14 @@ impl Counts {
     pub fn put_all(&mut self, assignments: &[Assignment]) -> bool
         ensures told { result ≡ counts_there assignments.now }
         ensures after { self.new ≡ put_left assignments.now self.old }
+        ensures nine { length self.new ≡ count_of_counts }
     {
         if !all_there(assignments) {
+            let _ = &self.values;
             return false;
         }
         self.set_each(assignments);
+        let _ = &self.values;
         true
     }
 }
