@@ -90,11 +90,11 @@ pub fn read_items<T: Item<SIZE>, const SIZE: usize, const MOST: usize>(
     ensures { option_map held result ≡ items_in MOST SIZE T.item_in content.now }
 {
     let (chunks, rest) = content.as_chunks::<SIZE>();
-    if !rest.is_empty() {
+    if chunks.is_empty() || !rest.is_empty() {
         return None;
     }
-    // The first item also fills the places that are not in use.
-    let mut found = ArrayVec::new(T::from_bytes(*chunks.first()?));
+    // The item of zeros fills the places that are not in use.
+    let mut found = ArrayVec::new(T::from_bytes([0; SIZE]));
     for chunk in chunks {
         found.push(T::from_bytes(*chunk)).ok()?;
     }

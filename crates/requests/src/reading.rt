@@ -1,11 +1,12 @@
 //! Reading requests.
-ghost use Rattle.std.specs.Prelude.{◌≡◌, IfErr};
+ghost use Rattle.std.specs.Prelude.{◌≡◌};
 ghost use Rattle.std.specs.Option.{option_map};
-ghost use Rattle.std.specs.Result.{result_ok};
 ghost use Rattle.packet.specs.Types.{ss as supplement_of, pktype as type_bits, type_named};
 ghost use Rattle.array_vec.specs.Held.{held};
 ghost use Rattle.requests.specs.Asked.{asked, asked_in};
-ghost use Rattle.requests.specs.Requests.{dataless as dataless_parsed, read_parsed, write_parsed, id_parsed, entries_with, parsed};
+ghost use Rattle.requests.specs.Requests.{dataless as dataless_parsed, read_parsed, write_parsed, id_parsed, entries_with, routes_parsed, parsed};
+ghost use Rattle.requests.specs.Requests.Request.{does};
+ghost use Rattle.requests.specs.Requests.Change.{add_routes, delete_routes};
 
 use crate::items::{Entries, read_items};
 use crate::naks::Nak;
@@ -68,14 +69,27 @@ fn id_request<'a>(ss: u8, content: &[u8]) -> Result<Request<'a>, Nak>
 }
 
 /// The entries of an ADDRT or a DELRT, which has supplement 0.
-fn read_entries(ss: u8, content: &[u8]) -> Result<Entries, Nak>
-    ensures entries { option_map held (result_ok result) ≡ entries_with ss content.now }
-    ensures incorrect { IfErr result (λ nak. nak ≡ Nak.Incorrect) }
+fn read_entries(ss: u8, content: &[u8]) -> Option<Entries>
+    ensures { option_map held result ≡ entries_with ss content.now }
 {
     if ss != 0 {
-        return Err(Nak::Incorrect);
+        return None;
     }
-    read_items(content).ok_or(Nak::Incorrect)
+    read_items(content)
+}
+
+/// ADDRT. It is a function, and so is DELRT: in `Request::read` every other request would pay for the room that the entries take.
+fn add_request<'a>(ss: u8, content: &[u8]) -> Result<Request<'a>, Nak>
+    ensures { asked_in result ≡ routes_parsed ss (λ es. does (add_routes es)) content.now }
+{
+    Ok(Request::AddRoutes(read_entries(ss, content).ok_or(Nak::Incorrect)?))
+}
+
+/// DELRT.
+fn delete_request<'a>(ss: u8, content: &[u8]) -> Result<Request<'a>, Nak>
+    ensures { asked_in result ≡ routes_parsed ss (λ es. does (delete_routes es)) content.now }
+{
+    Ok(Request::DeleteRoutes(read_entries(ss, content).ok_or(Nak::Incorrect)?))
 }
 
 impl<'a> Request<'a> {
@@ -99,8 +113,8 @@ impl<'a> Request<'a> {
             PacketType::Read => read_request(ss, content),
             PacketType::Write => write_request(ss, content),
             PacketType::Id => id_request(ss, content),
-            PacketType::Addrt => Ok(Request::AddRoutes(read_entries(ss, content)?)),
-            PacketType::Delrt => Ok(Request::DeleteRoutes(read_entries(ss, content)?)),
+            PacketType::Addrt => add_request(ss, content),
+            PacketType::Delrt => delete_request(ss, content),
             PacketType::Getrt => dataless(ss, content, Request::ListRoutes),
             PacketType::Ack | PacketType::Nak | PacketType::Other(_) => Err(Nak::Unknown),
         }
